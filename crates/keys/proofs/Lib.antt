@@ -1,0 +1,5 @@
+pub mod Totals
+pub mod Ranks
+pub mod Same
+pub mod Lexical
+pub mod Making

@@ -1,0 +1,63 @@
+-- A key is the one that its parts make, so what `make` answers is known from the parts.
+use Prim.Native.Nat.{ℕ}
+use mathlib.Core.Path.{_≡_, refl, sym, ap, _∙_}
+use mathlib.Core.Bool.{Bool, true, false, _&&_, true≢false}
+use mathlib.Core.List.{List}
+use native.Mathlib.Omega.{arith}
+use borrow.Author.Tests.{le-leb, eq-eqb}
+use lib.Dec.{leb, eqb}
+use lib.ListN.{length}
+use Rattle.std.proofs.shelf.Tests.{and-from}
+use Rattle.std.proofs.shelf.Lists.{length-take-le}
+use Rattle.std.specs.declared.option.Option.{Option}
+use Rattle.std.specs.declared.option.Option.the-variants.{Some, None}
+use Rattle.std.specs.declared.result.Result.{Result}
+use Rattle.std.specs.declared.result.Result.the-variants.{Ok, Err}
+use Rattle.keys.specs.declared.refusal.Refusal.{Refusal}
+use Rattle.keys.specs.declared.event.EventKind.{EventKind}
+use Rattle.keys.specs.declared.prefix.Prefix.{Prefix}
+use Rattle.keys.specs.declared.word.FlightWord.{FlightWord}
+use Rattle.keys.specs.Prefixes.{lowBits, firstBits, isPrefix}
+use Rattle.keys.specs.Words.{wordBytes, isWord}
+use Rattle.keys.specs.Values.{whenTrue, asked, eventOf, prefixOf, containingOf, wordOf, bytesOf, zeroed-word}
+use Rattle.keys.proofs.Same.{same-event, same-prefix, same-word}
+
+-- a value whose test passes
+given-true : {A : Type 0} (b : Bool) (f : b ≡ true → A) (k : A) → b ≡ true → ((p : b ≡ true) → k ≡ f p) → Some k ≡ whenTrue b f
+given-true true f k h e = ap Some (e refl)
+given-true false f k h e = absurd (true≢false (sym h))
+
+pub event-made : (k : EventKind) → Some k ≡ eventOf (k .number)
+event-made k = given-true (leb (k .number) 63) _ k (le-leb (k .number) 63 (k .small)) (λ p. same-event k _ refl)
+
+pub prefix-made : (k : Prefix) → Some k ≡ prefixOf (k .bits) (k .address)
+prefix-made k =
+    given-true (isPrefix (k .bits) (k .address)) _ k
+    (and-from (leb (k .bits) 32) (eqb (lowBits (k .bits) (k .address)) 0) (le-leb (k .bits) 32 (k .whole)) (eq-eqb (lowBits (k .bits) (k .address)) 0 (k .clear)))
+    (λ p. same-prefix k _ refl refl)
+
+pub prefix-containing : (address : ℕ) (k : Prefix) → k .address ≡ firstBits (k .bits) address → Some k ≡ containingOf (k .bits) address
+prefix-containing address k e = given-true (leb (k .bits) 32) _ k (le-leb (k .bits) 32 (k .whole)) (λ p. same-prefix k _ e refl)
+
+pub word-length : (k : FlightWord) → length (bytesOf k) ≡ k .len
+word-length k = length-take-le (k .len) (k .bytes) (omega arith)
+
+word-is : (k : FlightWord) → isWord (bytesOf k) ≡ true
+word-is k =
+    let n = word-length k in
+    and-from (leb 1 (length (bytesOf k)) && leb (length (bytesOf k)) 8) (wordBytes (bytesOf k))
+    (and-from (leb 1 (length (bytesOf k))) (leb (length (bytesOf k)) 8) (le-leb 1 (length (bytesOf k)) (omega arith)) (le-leb (length (bytesOf k)) 8 (omega arith)))
+    (k .allowed)
+
+pub word-made : (k : FlightWord) → Some k ≡ wordOf (bytesOf k)
+word-made k = given-true (isWord (bytesOf k)) _ k (word-is k) (λ p. same-word k _ (sym (zeroed-word (bytesOf k))))
+
+-- what `make` answers of the parts of a key
+pub makes-event : (n : ℕ) (k : EventKind) → k .number ≡ n → Ok k ≡ asked (eventOf n)
+makes-event n k e = ap asked (event-made k ∙ ap eventOf e)
+
+pub makes-prefix : (p address : ℕ) (k : Prefix) → k .bits ≡ p → k .address ≡ address → Ok k ≡ asked (prefixOf p address)
+makes-prefix p address k e f = ap asked (prefix-made k ∙ ap (λ (n : ℕ). prefixOf n (k .address)) e ∙ ap (prefixOf p) f)
+
+pub makes-word : (w : List ℕ) (k : FlightWord) → bytesOf k ≡ w → Ok k ≡ asked (wordOf w)
+makes-word w k e = ap asked (word-made k ∙ ap wordOf e)

@@ -1,0 +1,6 @@
+pub mod Orders
+pub mod Refusals
+pub mod Prefixes
+pub mod Words
+pub mod Helds
+pub mod Values

@@ -1,0 +1,80 @@
+//! Prefixes made, read and compared: by address as a number, then by the number of bits.
+ghost use mathlib.Core.Path.{_≡_};
+ghost use Prim.Native.Nat.{_≤_};
+ghost use lib.Dec.{ltb};
+ghost use Rattle.std.specs.declared.option.Option.the-variants.{Some};
+ghost use Rattle.keys.specs.Orders.{byParts};
+ghost use Rattle.keys.specs.Prefixes.{lowBits};
+ghost use Rattle.keys.specs.Values.{asked, prefixOf, containingOf};
+use crate::kind::Kind;
+use crate::prefix::Prefix;
+use crate::refusal::Refusal;
+use std::cmp::Ordering;
+
+/// The bits after the first `bits`, as a number.
+fn low_bits(address: u32, bits: u8) -> u32
+    requires { ⌜ bits ≤ 32 ⌝ }
+    ensures { λ r. ⌜ r ≡ lowBits bits address ⌝ }
+{
+    let size = 1u64 << (32 - bits);
+    (u64::from(address) & (size - 1)) as u32
+}
+
+impl Prefix {
+    /// The prefix with this address and length; refused with 1 if `bits` is above 32 or a bit after the first `bits`
+    /// is set.
+    pub fn make(address: u32, bits: u8) -> Result<Prefix, Refusal>
+        ensures { λ r. ⌜ r ≡ asked (prefixOf bits address) ⌝ }
+    {
+        if bits > 32 || low_bits(address, bits) != 0 {
+            return Err(Refusal::OutOfRange);
+        }
+        Ok(Prefix { address, bits })
+    }
+
+    /// The prefix of this length that contains the address: its first `bits` bits, then zeros.
+    fn clear_after(address: u32, bits: u8) -> Prefix
+        requires { ⌜ bits ≤ 32 ⌝ }
+        ensures { λ r. ⌜ Some r ≡ containingOf bits address ⌝ }
+    {
+        Prefix {
+            address: address - low_bits(address, bits),
+            bits,
+        }
+    }
+
+    /// The prefix of this length that contains the address; refused with 1 if `bits` is above 32.
+    pub fn containing(address: u32, bits: u8) -> Result<Prefix, Refusal>
+        ensures { λ r. ⌜ r ≡ asked (containingOf bits address) ⌝ }
+    {
+        if bits > 32 {
+            return Err(Refusal::OutOfRange);
+        }
+        Ok(Prefix::clear_after(address, bits))
+    }
+
+    pub fn address(&self) -> u32
+        ensures { λ r. ⌜ r ≡ now (self .entry) .address ⌝ }
+    {
+        self.address
+    }
+
+    /// The length: how many of the first bits count.
+    pub fn bits(&self) -> u8
+        ensures { λ r. ⌜ r ≡ now (self .entry) .bits ⌝ }
+    {
+        self.bits
+    }
+}
+
+pub impl Kind for Prefix as PrefixOrder {
+    ghost less = { λ a b. byParts ltb ltb (a .address) (a .bits) (b .address) (b .bits) };
+
+    fn compare(&self, other: &Prefix) -> Ordering {
+        match self.address.cmp(&other.address) {
+            Ordering::Less => Ordering::Less,
+            Ordering::Equal => self.bits.cmp(&other.bits),
+            Ordering::Greater => Ordering::Greater,
+        }
+    }
+}

@@ -1,0 +1,31 @@
+//! Which bytes make a flight word. The record's reader and writer ask the same.
+ghost use mathlib.Core.Path.{_≡_};
+ghost use Prim.Native.Nat.{_≤_};
+ghost use lib.ListN.{length};
+ghost use Rattle.keys.specs.Words.{wordByte, firstWrong, isWord};
+
+fn is_word_byte(byte: u8) -> bool
+    ensures { λ r. ⌜ r ≡ wordByte byte ⌝ }
+{
+    0x20 <= byte && byte <= 0x5F
+}
+
+/// The place of the first byte that no flight word has; the length if there is none.
+pub fn first_wrong(bytes: &[u8]) -> usize
+    ensures place { λ r. ⌜ r ≡ firstWrong (now (bytes .entry)) ⌝ }
+    ensures within { λ r. ⌜ r ≤ length (now (bytes .entry)) ⌝ }
+{
+    for (i, b) in bytes.iter().enumerate() {
+        if !is_word_byte(*b) {
+            return i;
+        }
+    }
+    bytes.len()
+}
+
+/// Whether these bytes are a flight word.
+pub fn is_word(bytes: &[u8]) -> bool
+    ensures { λ r. ⌜ r ≡ isWord (now (bytes .entry)) ⌝ }
+{
+    1 <= bytes.len() && bytes.len() <= 8 && first_wrong(bytes) == bytes.len()
+}

@@ -1,0 +1,7 @@
+pub mod Faults
+pub mod Fields
+pub mod Values
+pub mod Reading
+pub mod Writing
+pub mod Laws
+pub mod Logs
