@@ -1,30 +1,29 @@
 -- Text added piece by piece.
-use Prim.Native.Nat.{ℕ, zero, suc, _+_, _<_}
+use Prim.Native.Nat.{ℕ, _+_, _<_}
 use mathlib.Core.Path.{_≡_, refl, sym, _∙_, ap}
 use mathlib.Core.Bool.{true}
 use mathlib.Core.List.{List, [], _∷_, _++_, append-assoc}
 use native.Mathlib.Omega.{arith}
-use lib.Dec.{leb}
+use lib.Dec.{eqb, leb}
 use lib.ListN.{length, getD, take}
 use lib.Utf8.{encode}
 use Rattle.std.proofs.shelf.Ascii.{encode-ascii}
 use Rattle.std.proofs.shelf.Lists.{take-more}
-use Rattle.std.proofs.shelf.Tests.{and-parts, leb-true}
-use Rattle.keys.specs.Words.{wordByte, wordBytes}
+use Rattle.std.proofs.shelf.Tests.{and-parts, eqb-true, leb-true}
+use Rattle.keys.specs.Words.{firstWrong, isWord}
+use Rattle.keys.proofs.Lexical.{first-is}
 
-word-byte-ascii : (w : List ℕ) (i : ℕ) → wordBytes w ≡ true → i < length w → getD w i 0 < 128
-word-byte-ascii [] i h l = absurd (omega arith)
-word-byte-ascii (b ∷ bs) zero h l =
-    let a = and-parts (wordByte b) (wordBytes bs) h in
-    let r = and-parts (leb 0x20 b) (leb b 0x5F) (a .0) in
-    omega (arith, leb-true b 0x5F (r .1))
-word-byte-ascii (b ∷ bs) (suc i) h l = word-byte-ascii bs i (and-parts (wordByte b) (wordBytes bs) h .1) (omega arith)
+word-ascii : (w : List ℕ) (i : ℕ) → isWord w ≡ true → i < length w → getD w i 0 < 128
+word-ascii w i h l =
+    let p = and-parts _ (eqb (firstWrong w) (length w)) h in
+    let b = first-is w .before i (omega (arith, eqb-true (firstWrong w) (length w) (p .1))) in
+    omega (arith, leb-true (getD w i 0) 0x5F (and-parts (leb 0x20 (getD w i 0)) (leb (getD w i 0) 0x5F) b .1))
 
--- one more letter of a word
-pub letter-more : (was so after w : List ℕ) (i letter : ℕ) → wordBytes w ≡ true → i < length w → so ≡ was ++ take i w → letter ≡ getD w i 0 →
-    after ≡ so ++ encode letter → after ≡ was ++ take (i + 1) w
-letter-more was so after w i letter h l s e a =
-    let one : encode letter ≡ getD w i 0 ∷ [] = ap encode e ∙ encode-ascii (getD w i 0) (word-byte-ascii w i h l) in
+-- one more byte of a word
+pub byte-more : (was so after w : List ℕ) (i character : ℕ) → isWord w ≡ true → i < length w → so ≡ was ++ take i w → character ≡ getD w i 0 →
+    after ≡ so ++ encode character → after ≡ was ++ take (i + 1) w
+byte-more was so after w i character h l s e a =
+    let one : encode character ≡ getD w i 0 ∷ [] = ap encode e ∙ encode-ascii (getD w i 0) (word-ascii w i h l) in
     a ∙ ap (λ xs. so ++ xs) one ∙ ap (λ xs. xs ++ (getD w i 0 ∷ [])) s ∙ append-assoc was (take i w) (getD w i 0 ∷ [])
     ∙ ap (λ xs. was ++ xs) (sym (take-more w i 0 l))
 

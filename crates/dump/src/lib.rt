@@ -13,7 +13,7 @@ use std::alloc::Global;
 /// The most bytes of a log that are printed; of a longer one the text is only `long`.
 const MOST: usize = 65_536;
 
-/// What is printed of a log; an error only where memory runs out.
+/// What is printed of a log, or an error. The code fails only where memory does; the contract leaves open when.
 pub fn dump(heap: Global, log: &[u8]) -> Result<String, AllocError>
     ensures text { λ r. ⌜ made r (λ t. string-bytes t ≡ printed (now (log .entry))) ⌝ }
     ensures laws { λ _. ⌜ LogLaws (now (log .entry)) ⌝ }

@@ -5,7 +5,7 @@ ghost use mathlib.Core.List.{_++_};
 ghost use Prim.Native.Nat.{_+_, _^_, _<_};
 ghost use Rattle.std.specs.Of.String.{string-bytes};
 ghost use Rattle.std.specs.Vec.{made};
-ghost use Rattle.keys.specs.Words.{wordBytes};
+ghost use Rattle.keys.specs.Words.{isWord};
 ghost use Rattle.records.specs.Values.{bytesOf, valueOf};
 ghost use Rattle.records.specs.Writing.{wordFits};
 ghost use Rattle.records.specs.Faults.{placeOf};
@@ -50,13 +50,13 @@ fn push_source(text: &mut String, field: Option<u32>) -> fmt::Result
     }
 }
 
-fn push_letters(text: &mut String, word: &[u8]) -> fmt::Result
-    requires { ⌜ wordBytes (now word) ≡ true ⌝ }
+fn push_bytes(text: &mut String, word: &[u8]) -> fmt::Result
+    requires { ⌜ isWord (now word) ≡ true ⌝ }
     ensures { λ r. ⌜ made r (λ _. string-bytes (now (text .exit)) ≡ string-bytes (now (text .entry)) ++ now (word .entry)) ⌝ }
 {
     for b in word {
-        let letter = char::from(*b);
-        write!(text, "{letter}")?;
+        let character = char::from(*b);
+        write!(text, "{character}")?;
     }
     Ok(())
 }
@@ -69,7 +69,7 @@ fn push_flight(text: &mut String, field: Option<&[u8]>) -> fmt::Result
         return Ok(());
     };
     write!(text, " flight \"")?;
-    push_letters(text, word)?;
+    push_bytes(text, word)?;
     write!(text, "\"")?;
     Ok(())
 }

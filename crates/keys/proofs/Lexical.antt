@@ -1,7 +1,7 @@
 -- What `cmp` answers of two flight words, by their order; zeros behind a word; its first wrong byte.
-use Prim.Native.Nat.{ℕ, suc, _+_, _-_, _<_, _≤_}
+use Prim.Native.Nat.{ℕ, zero, suc, _+_, _-_, _<_, _≤_}
 use mathlib.Core.Path.{_≡_, refl, sym, ap, subst, _∙_}
-use mathlib.Core.Bool.{Bool, true, false}
+use mathlib.Core.Bool.{Bool, true, false, cond, true≢false}
 use mathlib.Core.List.{List, [], _∷_, _++_}
 use lib.Dec.{eqb, leb}
 use lib.ListN.{length, getD, set, take, drop, replicate}
@@ -15,7 +15,7 @@ use Rattle.std.specs.Lexical.{Lex}
 use Rattle.std.specs.Orderings.{Ranked, isLt, isGt}
 use Rattle.std.specs.declared.cmp.Ordering.{Ordering}
 use Rattle.std.specs.declared.cmp.Ordering.the-variants.{Less, Equal, Greater}
-use Rattle.keys.specs.Words.{lessWord, wordByte, wordBytes, firstWrong}
+use Rattle.keys.specs.Words.{lessWord, wordByte, firstWrong, FirstWrong}
 use Rattle.keys.specs.Values.{bytesOf}
 use Rattle.keys.proofs.Totals.{word-total}
 use Rattle.keys.proofs.Ranks.{ranked-map}
@@ -52,7 +52,28 @@ fill-more w i h l =
     let a = append-assoc (take i w) (getD w i 0 ∷ []) (replicate m 0) in
     rw (e, t) (s ∙ sym a)
 
--- no byte is wrong exactly if the first wrong byte is past the end
-pub none-wrong : (w : List ℕ) → eqb (firstWrong w) (length w) ≡ wordBytes w
-none-wrong [] = refl
-none-wrong (b ∷ bs) = let h = none-wrong bs in grind (arith, tells)
+-- the first wrong place is the only one that its name fits
+first-at : (b : ℕ) (bs : List ℕ) (place : ℕ) (t : Bool) → wordByte b ≡ t → FirstWrong (b ∷ bs) place →
+    ((p : ℕ) → FirstWrong bs p → p ≡ firstWrong bs) → place ≡ cond t (suc (firstWrong bs)) 0
+first-at b bs zero true e h later = absurd (true≢false (sym e ∙ h .found (omega arith)))
+first-at b bs (suc p) true e h later =
+    ap suc (later p (record { within = omega (arith, h .within); before = λ i l. h .before (suc i) (omega arith); found = λ l. h .found (omega arith) }))
+first-at b bs zero false e h later = refl
+first-at b bs (suc p) false e h later = absurd (true≢false (sym (h .before 0 (omega arith)) ∙ e))
+
+pub first-only : (bs : List ℕ) (place : ℕ) → FirstWrong bs place → place ≡ firstWrong bs
+first-only [] place h = omega (arith, h .within)
+first-only (b ∷ bs) place h = first-at b bs place (wordByte b) refl h (first-only bs)
+
+-- and its name does fit it
+before-more : (b : ℕ) (bs : List ℕ) (place i : ℕ) → wordByte b ≡ true → FirstWrong bs place → i < suc place → wordByte (getD (b ∷ bs) i 0) ≡ true
+before-more b bs place zero e h l = e
+before-more b bs place (suc i) e h l = h .before i (omega arith)
+
+first-more : (b : ℕ) (bs : List ℕ) (t : Bool) → wordByte b ≡ t → FirstWrong bs (firstWrong bs) → FirstWrong (b ∷ bs) (cond t (suc (firstWrong bs)) 0)
+first-more b bs true e h = record { within = omega (arith, h .within); before = λ i l. before-more b bs (firstWrong bs) i e h l; found = λ l. h .found (omega arith) }
+first-more b bs false e h = record { within = omega arith; before = λ i l. absurd (omega arith); found = λ l. e }
+
+pub first-is : (bs : List ℕ) → FirstWrong bs (firstWrong bs)
+first-is [] = record { within = omega arith; before = λ i l. absurd (omega arith); found = λ l. absurd (omega arith) }
+first-is (b ∷ bs) = first-more b bs (wordByte b) refl (first-is bs)

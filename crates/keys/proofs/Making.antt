@@ -18,7 +18,7 @@ use Rattle.keys.specs.declared.event.EventKind.{EventKind}
 use Rattle.keys.specs.declared.prefix.Prefix.{Prefix}
 use Rattle.keys.specs.declared.word.FlightWord.{FlightWord}
 use Rattle.keys.specs.Prefixes.{lowBits, firstBits, isPrefix}
-use Rattle.keys.specs.Words.{wordBytes, isWord}
+use Rattle.keys.specs.Words.{firstWrong, isWord}
 use Rattle.keys.specs.Values.{whenTrue, asked, eventOf, prefixOf, containingOf, wordOf, bytesOf, zeroed-word}
 use Rattle.keys.proofs.Same.{same-event, same-prefix, same-word}
 
@@ -45,9 +45,10 @@ word-length k = length-take-le (k .len) (k .bytes) (omega arith)
 word-is : (k : FlightWord) → isWord (bytesOf k) ≡ true
 word-is k =
     let n = word-length k in
-    and-from (leb 1 (length (bytesOf k)) && leb (length (bytesOf k)) 8) (wordBytes (bytesOf k))
-    (and-from (leb 1 (length (bytesOf k))) (leb (length (bytesOf k)) 8) (le-leb 1 (length (bytesOf k)) (omega arith)) (le-leb (length (bytesOf k)) 8 (omega arith)))
-    (k .allowed)
+    let w : List ℕ = bytesOf k in
+    and-from (leb 1 (length w) && leb (length w) 8) (eqb (firstWrong w) (length w))
+    (and-from (leb 1 (length w)) (leb (length w) 8) (le-leb 1 (length w) (omega arith)) (le-leb (length w) 8 (omega arith)))
+    (eq-eqb (firstWrong w) (length w) (omega (arith, k .right)))
 
 pub word-made : (k : FlightWord) → Some k ≡ wordOf (bytesOf k)
 word-made k = given-true (isWord (bytesOf k)) _ k (word-is k) (λ p. same-word k _ (sym (zeroed-word (bytesOf k))))
@@ -59,5 +60,5 @@ makes-event n k e = ap asked (event-made k ∙ ap eventOf e)
 pub makes-prefix : (p address : ℕ) (k : Prefix) → k .bits ≡ p → k .address ≡ address → Ok k ≡ asked (prefixOf p address)
 makes-prefix p address k e f = ap asked (prefix-made k ∙ ap (λ (n : ℕ). prefixOf n (k .address)) e ∙ ap (prefixOf p) f)
 
-pub makes-word : (w : List ℕ) (k : FlightWord) → bytesOf k ≡ w → Ok k ≡ asked (wordOf w)
-makes-word w k e = ap asked (word-made k ∙ ap wordOf e)
+pub stores-word : (w : List ℕ) (k : FlightWord) → bytesOf k ≡ w → Some k ≡ wordOf w
+stores-word w k e = word-made k ∙ ap wordOf e

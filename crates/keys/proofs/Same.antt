@@ -10,7 +10,7 @@ use denote.Struct.Props.{props}
 use lib.ListN.{length, take, drop, replicate}
 use Rattle.std.proofs.shelf.Lists.{take-append-drop, length-take-le}
 use Rattle.keys.specs.Prefixes.{lowBits}
-use Rattle.keys.specs.Words.{wordBytes}
+use Rattle.keys.specs.Words.{firstWrong}
 use Rattle.keys.specs.declared.event.EventKind.{EventKind}
 use Rattle.keys.specs.declared.prefix.Prefix.{Prefix}
 use Rattle.keys.specs.declared.word.FlightWord.{FlightWord}
@@ -33,7 +33,7 @@ fields x y a b j = record {
   some = isProp→PathP (λ k. 1 ≤ b k) (λ k. le-prop) (x .some) (y .some) j;
   fits = isProp→PathP (λ k. b k ≤ 8) (λ k. le-prop) (x .fits) (y .fits) j;
   eight = isProp→PathP (λ k. length (a k) ≡ 8) (λ k. search props) (x .eight) (y .eight) j;
-  allowed = isProp→PathP (λ k. wordBytes (take (b k) (a k)) ≡ true) (λ k. search props) (x .allowed) (y .allowed) j;
+  right = isProp→PathP (λ k. firstWrong (take (b k) (a k)) ≡ b k) (λ k. search props) (x .right) (y .right) j;
   padded = isProp→PathP (λ k. drop (b k) (a k) ≡ replicate (8 - b k) 0) (λ k. search props) (x .padded) (y .padded) j;
 }
 

@@ -21,7 +21,7 @@ use Rattle.keys.specs.declared.event.EventKind.{EventKind}
 use Rattle.keys.specs.declared.prefix.Prefix.{Prefix}
 use Rattle.keys.specs.declared.word.FlightWord.{FlightWord}
 use Rattle.keys.specs.Prefixes.{lowBits, firstBits, isPrefix}
-use Rattle.keys.specs.Words.{wordBytes, isWord}
+use Rattle.keys.specs.Words.{firstWrong, isWord}
 
 -- a value that takes a passed test to make; none where the test fails
 abbrev pub whenTrue : {A : Type 0} (b : Bool) → (b ≡ true → A) → Option A
@@ -78,13 +78,13 @@ zeroed-rest w = drop-at w (replicate (8 - length w) 0) (length w) refl
 pub record WordParts (w : List ℕ) : Type 0 where
   pub some : 1 ≤ length w
   pub fits : length w ≤ 8
-  pub allowed : wordBytes w ≡ true
+  pub right : firstWrong w ≡ length w
 
 pub word-parts : (w : List ℕ) → isWord w ≡ true → WordParts w
 word-parts w h =
-    let a = and-parts (leb 1 (length w) && leb (length w) 8) (wordBytes w) h in
+    let a = and-parts (leb 1 (length w) && leb (length w) 8) (eqb (firstWrong w) (length w)) h in
     let b = and-parts (leb 1 (length w)) (leb (length w) 8) (a .0) in
-    record { some = leb-true 1 (length w) (b .0); fits = leb-true (length w) 8 (b .1); allowed = a .1 }
+    record { some = leb-true 1 (length w) (b .0); fits = leb-true (length w) 8 (b .1); right = eqb-true (firstWrong w) (length w) (a .1) }
 
 abbrev pub wordAs : (w : List ℕ) → WordParts w → FlightWord
 wordAs w h = record {
@@ -93,7 +93,7 @@ wordAs w h = record {
   some = h .some;
   fits = h .fits;
   eight = zeroed-eight w (h .fits);
-  allowed = ap wordBytes (zeroed-word w) ∙ h .allowed;
+  right = ap firstWrong (zeroed-word w) ∙ h .right;
   padded = zeroed-rest w;
 }
 

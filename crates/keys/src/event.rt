@@ -1,5 +1,6 @@
-//! An event kind: a number from 0 to 63. Its functions stand in `methods`.
+//! An event kind: a number from 0 to 63. `methods` makes and reads one, `order` compares.
 pub mod methods;
+pub mod order;
 
 ghost use Prim.Native.Nat.{_≤_};
 

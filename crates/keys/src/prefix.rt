@@ -1,6 +1,7 @@
 //! An address prefix: an IPv4 address and how many of its first bits count. Every bit after these is zero, so one
-//! prefix has one value. Its functions stand in `methods`.
+//! prefix has one value. `methods` makes and reads one, `order` compares.
 pub mod methods;
+pub mod order;
 
 ghost use mathlib.Core.Path.{_≡_};
 ghost use Prim.Native.Nat.{_≤_};

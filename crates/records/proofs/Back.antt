@@ -15,8 +15,8 @@ use Rattle.std.specs.Options.{isSome}
 use Rattle.std.proofs.shelf.Lists.{length-append, getD-append-add, getD-at, take-at, drop-at, append-nil}
 use Rattle.std.proofs.shelf.Tests.{and-parts, le-leb, lt-ltb, leb-true, ltb-true, cond-true, and-from}
 use Rattle.records.specs.declared.fault.ReadFault.{ReadFault}
-use Rattle.keys.specs.Words.{wordBytes}
-use Rattle.records.specs.Fields.{Got, byteAt, fourAt, wordAt, lettersAt, joinAt, join, part}
+use Rattle.keys.specs.Words.{firstWrong}
+use Rattle.records.specs.Fields.{Got, byteAt, fourAt, wordAt, wordBytesAt, joinAt, join, part}
 use Rattle.records.specs.Values.{RecordValue}
 use Rattle.records.specs.Reading.{next, bit, fieldsOf, reading}
 use Rattle.records.specs.Writing.{encodeByte, encodeFour, encodeWord, within, wordFits, inRange, mapOf, encode}
@@ -68,7 +68,7 @@ module _ (bs front post : List ℕ) where
       let q : part bs (length front + 1) (length v) ≡ v =
       ap (λ xs. take (length v) (drop (length front + 1) xs)) split ∙ ap (take (length v)) (drop-at head (v ++ post) (length front + 1) long)
       ∙ take-at v post (length v) refl in
-      let z = and-parts (leb 1 (length v) && leb (length v) 8) (wordBytes v) w in
+      let z = and-parts (leb 1 (length v) && leb (length v) 8) (eqb (firstWrong v) (length v)) w in
       let p : length front + 1 + length v ≡ length (front ++ encodeWord (Some v)) = omega (arith, length-append front (length v ∷ v)) in
       rw (s, t, g, z .0, u, q, z .1, p)
   word-back present None s w e =

@@ -17,8 +17,8 @@ use Rattle.std.proofs.shelf.Lists.{append-nil, take-more, drop-more}
 use Rattle.std.proofs.shelf.Tests.{and-parts, and-from, le-leb, lt-ltb, leb-true, ltb-true, eqb-true, eq-eqb}
 use Rattle.records.specs.declared.fault.ReadFault.{ReadFault}
 use Rattle.records.specs.declared.fault.ReadFault.the-variants.{Map, CutOff, Field}
-use Rattle.keys.specs.Words.{wordBytes, firstWrong}
-use Rattle.records.specs.Fields.{Got, byteAt, fourAt, wordAt, lettersAt, joinAt, join, part}
+use Rattle.keys.specs.Words.{firstWrong}
+use Rattle.records.specs.Fields.{Got, byteAt, fourAt, wordAt, wordBytesAt, joinAt, join, part}
 use Rattle.records.specs.Values.{RecordValue}
 use Rattle.records.specs.Reading.{next, bit, fieldsOf, reading}
 use Rattle.records.specs.Writing.{encodeByte, encodeFour, encodeWord, within, wordFits, inRange, mapOf, encode}
@@ -85,14 +85,14 @@ module _ (bs : List ℕ) (bytes : (i : ℕ) → getD bs i 0 < 256) (at : ℕ) (l
       let n : ℕ = getD bs at 0 in
       let w : List ℕ = part bs (at + 1) n in
       let got : Got (List ℕ) = Ok (Some w, at + 1 + n) in
-      let c = cond-ok (ltb at (length bs)) (cond (leb 1 n && leb n 8) (lettersAt n bs (at + 1)) (Err (Field at))) (CutOff (length bs)) x q in
-      let d = cond-ok (leb 1 n && leb n 8) (lettersAt n bs (at + 1)) (Field at) x (c .1) in
-      let e = cond-ok (leb (at + 1 + n) (length bs)) (cond (wordBytes w) got (Err (Field (at + 1 + firstWrong w)))) (CutOff (length bs)) x (d .1) in
-      let f = cond-ok (wordBytes w) got (Field (at + 1 + firstWrong w)) x (e .1) in
+      let c = cond-ok (ltb at (length bs)) (cond (leb 1 n && leb n 8) (wordBytesAt n bs (at + 1)) (Err (Field at))) (CutOff (length bs)) x q in
+      let d = cond-ok (leb 1 n && leb n 8) (wordBytesAt n bs (at + 1)) (Field at) x (c .1) in
+      let e = cond-ok (leb (at + 1 + n) (length bs)) (cond (eqb (firstWrong w) n) got (Err (Field (at + 1 + firstWrong w)))) (CutOff (length bs)) x (d .1) in
+      let f = cond-ok (eqb (firstWrong w) n) got (Field (at + 1 + firstWrong w)) x (e .1) in
       let h : at < length bs = ltb-true at (length bs) (c .0) in
       let k : at + 1 + n ≤ length bs = leb-true (at + 1 + n) (length bs) (e .0) in
       let long : length w ≡ n = simp (length-take, length-drop) (omega arith) in
-      let ok : wordFits (Some w) ≡ true = rw long (and-from (leb 1 n && leb n 8) (wordBytes w) (d .0) (f .0)) in
+      let ok : wordFits (Some w) ≡ true = rw long (and-from (leb 1 n && leb n 8) (eqb (firstWrong w) n) (d .0) (f .0)) in
       let bytes-are : take (at + 1 + n) bs ≡ take at bs ++ (length w ∷ w) =
       take-add (at + 1) n bs ∙ ap (λ xs. xs ++ w) (take-more bs at 0 h) ∙ append-assoc (take at bs) (n ∷ []) w
       ∙ ap (λ m. take at bs ++ (m ∷ w)) (sym long) in
@@ -129,7 +129,7 @@ module _ (G : Got ℕ) (H I J : ℕ → Got ℕ) (K : ℕ → Got (List ℕ)) wh
       let c = next-ok (I (b .0 .1)) (f3 (a .0 .0) (b .0 .0)) y (b .2) in
       let d = next-ok (J (c .0 .1)) (f4 (a .0 .0) (b .0 .0) (c .0 .0)) y (c .2) in
       let e = next-ok (K (d .0 .1)) (f5 (a .0 .0) (b .0 .0) (c .0 .0) (d .0 .0)) y (d .2) in
-      record { t = a .0; k = b .0; o = c .0; s = d .0; w = e .0; t-is = a .1; k-is = b .1; o-is = c .1; s-is = d .1; w-is = e .1; same = ok-same (e .2) }
+      record { t = a .0; k = b .0; o = c .0; s = d .0; w = e .0; t-is = a .1; k-is = b .1; o-is = c .1; s-is = d .1; w-is = e .1; same = ok-same {x = (record { time = a .0 .0; kind = b .0 .0; console = c .0 .0; source = d .0 .0; flight = e .0 .0 }, e .0 .1)} {y = y} (e .2) }
 
 -- a record that was read: its bytes write it again
 abbrev pub Wrote : List ℕ → RecordValue × ℕ → Type 0

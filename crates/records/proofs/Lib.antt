@@ -1,4 +1,3 @@
-pub mod Letters
 pub mod Paste
 pub mod Bits
 pub mod Back

@@ -94,7 +94,7 @@ module _ (index offset : ℕ) (bs : List ℕ) (bytes : Bytes bs) where
   splits-at some (Ok p) q later =
       let w = was-read bs bytes (p .0) (p .1) q in
       subst (Splits index offset bs) (sym (log-more index offset bs bytes (p .0) (p .1) q))
-      (splits-more index offset bs (p .0) (p .1) _ (w .valid) (w .bytes) (w .inside) (later (p .0) (p .1) (w .some)))
+      (splits-more index offset bs (p .0) (p .1) _ (w .valid) (w .bytes) (w .inside) (later (p .0) (p .1) (omega (arith, w .some))))
   splits-at some (Err f) q later =
       subst (Splits index offset bs) (sym (log-stopped index offset bs f some q))
       (record { records = refl; rest = bs; joined = refl; end = (some, q, omega arith, omega arith) })

@@ -7,7 +7,7 @@ use native.Mathlib.Nat.{add-zero}
 use native.Mathlib.Numerals.{add-one}
 use lib.ListN.{length, take, drop, set}
 use Rattle.std.proofs.shelf.Lists.{take-append-drop, set-split, take-at, drop-at, drop-drop, length-take-le, length-append}
-use Rattle.records.specs.Writing.{pasted}
+use Rattle.records.specs.Pasting.{pasted}
 
 pub pasted-nil : (out : List ℕ) (at : ℕ) → out ≡ pasted out at []
 unfolding pasted

@@ -3,26 +3,27 @@ use Prim.Native.Nat.{ℕ, _+_, _≤_, _<_}
 use mathlib.Core.Path.{_≡_, refl, sym, _∙_, ap, subst}
 use mathlib.Core.Bool.{Bool, true, cond, _&&_}
 use mathlib.Core.List.{List, [], _∷_, _++_}
+use mathlib.Core.Logic.{⊎-elim}
 use native.Mathlib.Omega.{arith}
-use lib.Dec.{leb, ltb}
+use lib.Dec.{eqb, leb, ltb}
 use lib.ListN.{length, getD, take}
 use Rattle.std.specs.declared.option.Option.{Option}
 use Rattle.std.specs.declared.option.Option.the-variants.{Some, None}
 use Rattle.std.specs.declared.result.Result.{Result}
 use Rattle.std.specs.declared.result.Result.the-variants.{Ok, Err}
 use Rattle.std.proofs.shelf.Lists.{length-append, length-take-le, append-nil}
-use Rattle.std.proofs.shelf.Tests.{le-leb, leb-true, and-parts, and-from}
+use Rattle.std.proofs.shelf.Tests.{le-leb, leb-true, ltb-true, and-parts, and-from, cases-lt}
 use Rattle.keys.specs.declared.refusal.Refusal.{Refusal}
 use Rattle.keys.specs.declared.refusal.Refusal.the-variants.{Field, NoRoom}
 use Rattle.keys.specs.declared.refusal.Refusal.the-variants as refusal
-use Rattle.keys.specs.Words.{wordBytes, firstWrong}
+use Rattle.keys.specs.Words.{firstWrong}
 use Rattle.records.specs.declared.fault.ReadFault.{ReadFault}
 use Rattle.records.specs.declared.fault.ReadFault.the-variants as fault
 use Rattle.records.specs.Faults.{placeOf}
-use Rattle.records.specs.Fields.{Got, byteAt, fourAt, wordAt, lettersAt, joinAt, part}
+use Rattle.records.specs.Fields.{Got, byteAt, fourAt, wordAt, wordBytesAt, joinAt, part}
 use Rattle.records.specs.Values.{RecordValue}
 use Rattle.records.specs.Reading.{next, bit, fieldsOf, reading}
-use Rattle.records.specs.Writing.{encodeByte, encodeFour, encodeWord, within, wordFits, inRange, mapOf, encode, writing}
+use Rattle.records.specs.Writing.{weight, encodeByte, encodeFour, encodeWord, within, wordFits, inRange, mapOf, encode, writing}
 use Rattle.records.specs.Laws.{Bytes, WasRead, ReadLaws, WasWritten, WriteLaws}
 use Rattle.records.proofs.Back.{reads-back}
 use Rattle.records.proofs.Forth.{writes-back, ok-same, cond-ok}
@@ -38,7 +39,7 @@ four-short None = omega arith
 
 word-short : (f : Option (List ℕ)) → wordFits f ≡ true → length (encodeWord f) ≤ 9
 word-short (Some w) h =
-    let a = and-parts (leb 1 (length w) && leb (length w) 8) (wordBytes w) h in
+    let a = and-parts (leb 1 (length w) && leb (length w) 8) (eqb (firstWrong w) (length w)) h in
     let b = and-parts (leb 1 (length w)) (leb (length w) 8) (a .0) in
     omega (arith, leb-true (length w) 8 (b .1))
 word-short None h = omega arith
@@ -52,12 +53,39 @@ encode-short r h =
     let w = and-parts (within 0 86_399 (r .time) && within 0 63 (r .kind) && within 1 250 (r .console) && within 0 4_294_967_295 (r .source)) (wordFits (r .flight)) h in
     omega (arith, encode-length r, four-short (r .time), byte-short (r .kind), byte-short (r .console), four-short (r .source), word-short (r .flight) (w .1))
 
+-- a field that takes no bytes sets no bit
+byte-none : (f : Option ℕ) (w : ℕ) → length (encodeByte f) ≡ 0 → weight f w ≡ 0
+byte-none (Some b) w e = absurd (omega (arith, e))
+byte-none None w e = refl
+
+four-none : (f : Option ℕ) (w : ℕ) → length (encodeFour f) ≡ 0 → weight f w ≡ 0
+four-none (Some v) w e = absurd (omega (arith, e))
+four-none None w e = refl
+
+word-none : (f : Option (List ℕ)) (w : ℕ) → length (encodeWord f) ≡ 0 → weight f w ≡ 0
+word-none (Some v) w e = absurd (omega (arith, e))
+word-none None w e = refl
+
+-- a record has a field, so it has more than the map byte
+encode-some : (r : RecordValue) → ltb 0 (mapOf r) ≡ true → 2 ≤ length (encode r)
+encode-some r h =
+    ⊎-elim (λ (more : 1 < length (encode r)). more)
+    (λ (none : length (encode r) ≤ 1).
+    let long = encode-length r in
+    let time = four-none (r .time) 1 (omega arith) in
+    let kind = byte-none (r .kind) 2 (omega arith) in
+    let console = byte-none (r .console) 4 (omega arith) in
+    let source = four-none (r .source) 8 (omega arith) in
+    let flight = word-none (r .flight) 16 (omega arith) in
+    absurd (omega (arith, ltb-true 0 (mapOf r) h, time, kind, console, source, flight)))
+    (cases-lt 1 (length (encode r)))
+
 pub was-read : (bs : List ℕ) → Bytes bs → (r : RecordValue) (n : ℕ) → reading bs ≡ Ok (r, n) → WasRead bs r n
 was-read bs bytes r n q =
     let w = writes-back bs bytes (r, n) q in
     let long : length (encode r) ≡ n = ap length (w .0) ∙ length-take-le n bs (w .3) in
     record {
-      some = omega (arith, encode-length r, long);
+      some = omega (arith, encode-some r (w .1), long);
       short = omega (arith, encode-short r (w .2), long);
       inside = w .3;
       valid = and-from (ltb 0 (mapOf r)) (inRange r) (w .1) (w .2);

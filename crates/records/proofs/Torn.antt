@@ -6,7 +6,7 @@ use mathlib.Core.Bool.{Bool, true, false, cond, _&&_}
 use mathlib.Core.List.{List, [], _∷_}
 use mathlib.Core.Logic.{⊎-elim}
 use native.Mathlib.Omega.{arith}
-use lib.Dec.{leb, ltb}
+use lib.Dec.{eqb, leb, ltb}
 use lib.ListN.{length, getD, take, drop}
 use Rattle.std.specs.declared.option.Option.{Option}
 use Rattle.std.specs.declared.option.Option.the-variants.{Some, None}
@@ -15,11 +15,12 @@ use Rattle.std.specs.declared.result.Result.the-variants.{Ok, Err}
 use Rattle.std.proofs.shelf.Lists.{length-take, length-take-le, getD-take, take-take}
 use Rattle.std.proofs.shelf.Parts.{between-is}
 use Rattle.std.proofs.shelf.Tests.{le-leb, lt-leb, lt-ltb, le-ltb, leb-true, ltb-true, cases-lt, cond-both, cond-true}
-use Rattle.keys.specs.Words.{wordByte, wordBytes, firstWrong}
+use Rattle.keys.specs.Words.{firstWrong}
+use Rattle.keys.proofs.Lexical.{first-is}
 use Rattle.records.specs.declared.fault.ReadFault.{ReadFault}
 use Rattle.records.specs.declared.fault.ReadFault.the-variants.{Map, CutOff, Field}
 use Rattle.records.specs.Faults.{placeOf}
-use Rattle.records.specs.Fields.{Got, byteAt, fourAt, wordAt, lettersAt, joinAt, part}
+use Rattle.records.specs.Fields.{Got, byteAt, fourAt, wordAt, wordBytesAt, joinAt, part}
 use Rattle.records.specs.Values.{RecordValue}
 use Rattle.records.specs.Reading.{next, bit, fieldsOf, reading}
 use Rattle.records.proofs.Forth.{ok-same, cond-ok}
@@ -89,10 +90,10 @@ module _ (bs : List ℕ) (k : ℕ) (l : k ≤ length bs) where
       let n : ℕ = getD bs at 0 in
       let w : List ℕ = part bs (at + 1) n in
       let got : Got (List ℕ) = Ok (Some w, at + 1 + n) in
-      let c = cond-ok (ltb at (length bs)) (cond (leb 1 n && leb n 8) (lettersAt n bs (at + 1)) (Err (Field at))) (CutOff (length bs)) x q in
-      let d = cond-ok (leb 1 n && leb n 8) (lettersAt n bs (at + 1)) (Field at) x (c .1) in
-      let e = cond-ok (leb (at + 1 + n) (length bs)) (cond (wordBytes w) got (Err (Field (at + 1 + firstWrong w)))) (CutOff (length bs)) x (d .1) in
-      let f = cond-ok (wordBytes w) got (Field (at + 1 + firstWrong w)) x (e .1) in
+      let c = cond-ok (ltb at (length bs)) (cond (leb 1 n && leb n 8) (wordBytesAt n bs (at + 1)) (Err (Field at))) (CutOff (length bs)) x q in
+      let d = cond-ok (leb 1 n && leb n 8) (wordBytesAt n bs (at + 1)) (Field at) x (c .1) in
+      let e = cond-ok (leb (at + 1 + n) (length bs)) (cond (eqb (firstWrong w) n) got (Err (Field (at + 1 + firstWrong w)))) (CutOff (length bs)) x (d .1) in
+      let f = cond-ok (eqb (firstWrong w) n) got (Field (at + 1 + firstWrong w)) x (e .1) in
       let z : at + 1 + n ≡ x .1 = ap (λ y. y .1) (ok-same (f .1)) in (
         λ inside.
             let t = lt-ltb at k (omega arith) in
@@ -137,10 +138,6 @@ cut-off (map ∷ rest) r n (suc k) q l h =
     cond-true (leb 1 map && leb map 31) (fieldsOf map (take (suc k) (map ∷ rest))) (Err (Map 0)) (a .0)
     ∙ fields-cut map (map ∷ rest) (suc k) (omega arith) (omega arith) (r, n) (a .1) h
 
-wrong-within : (w : List ℕ) → firstWrong w ≤ length w
-wrong-within [] = omega arith
-wrong-within (b ∷ bs) = let h = wrong-within bs in cond-both (wordByte b) (suc (firstWrong bs)) 0 (λ n. n ≤ suc (length bs)) (λ _. omega arith) (λ _. omega arith)
-
 length-take-most : (n : ℕ) (xs : List ℕ) → length (take n xs) ≤ n
 length-take-most n xs = rw length-take (omega arith)
 
@@ -166,18 +163,18 @@ module _ (bs : List ℕ) where
       (λ _. omega arith))
       (λ _. h)
 
-  letters-inside : (n at : ℕ) → Inside bs (lettersAt n bs at)
-  letters-inside n at =
+  bytes-inside : (n at : ℕ) → Inside bs (wordBytesAt n bs at)
+  bytes-inside n at =
       cond-both (leb (at + n) (length bs)) _ _ (Inside bs)
-      (λ t. cond-both (wordBytes (part bs at n)) _ _ (Inside bs) (λ _. leb-true (at + n) (length bs) t)
-      (λ _. omega (arith, leb-true (at + n) (length bs) t, wrong-within (part bs at n), length-take-most n (drop at bs))))
+      (λ t. cond-both (eqb (firstWrong (part bs at n)) n) _ _ (Inside bs) (λ _. leb-true (at + n) (length bs) t)
+      (λ _. omega (arith, leb-true (at + n) (length bs) t, first-is (part bs at n) .within, length-take-most n (drop at bs))))
       (λ _. omega arith)
 
   word-inside : (present : Bool) (at : ℕ) → at ≤ length bs → Inside bs (wordAt present bs at)
   word-inside present at h =
       cond-both present _ _ (Inside bs)
       (λ _. cond-both (ltb at (length bs)) _ _ (Inside bs)
-      (λ t. cond-both (leb 1 (getD bs at 0) && leb (getD bs at 0) 8) _ _ (Inside bs) (λ _. letters-inside (getD bs at 0) (at + 1)) (λ _. h))
+      (λ t. cond-both (leb 1 (getD bs at 0) && leb (getD bs at 0) 8) _ _ (Inside bs) (λ _. bytes-inside (getD bs at 0) (at + 1)) (λ _. h))
       (λ _. omega arith))
       (λ _. h)
 

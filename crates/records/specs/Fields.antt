@@ -2,13 +2,13 @@
 use Prim.Native.Nat.{ℕ, _+_, _*_}
 use mathlib.Core.Bool.{Bool, cond, _&&_}
 use mathlib.Core.List.{List}
-use lib.Dec.{leb, ltb}
+use lib.Dec.{eqb, leb, ltb}
 use lib.ListN.{length, getD, take, drop}
 use Rattle.std.specs.declared.option.Option.{Option}
 use Rattle.std.specs.declared.option.Option.the-variants.{Some, None}
 use Rattle.std.specs.declared.result.Result.{Result}
 use Rattle.std.specs.declared.result.Result.the-variants.{Ok, Err}
-use Rattle.keys.specs.Words.{wordBytes, firstWrong}
+use Rattle.keys.specs.Words.{firstWrong}
 use Rattle.records.specs.declared.fault.ReadFault.{ReadFault}
 use Rattle.records.specs.declared.fault.ReadFault.the-variants.{CutOff, Field}
 
@@ -46,10 +46,10 @@ abbrev pub part : List ℕ → ℕ → ℕ → List ℕ
 part bs at n = take n (drop at bs)
 
 -- n bytes of a flight word: cut off, then the first wrong byte
-abbrev pub lettersAt : (n : ℕ) (bs : List ℕ) (at : ℕ) → Got (List ℕ)
-lettersAt n bs at =
+abbrev pub wordBytesAt : (n : ℕ) (bs : List ℕ) (at : ℕ) → Got (List ℕ)
+wordBytesAt n bs at =
     cond (leb (at + n) (length bs))
-    (cond (wordBytes (part bs at n)) (Ok (Some (part bs at n), at + n)) (Err (Field (at + firstWrong (part bs at n)))))
+    (cond (eqb (firstWrong (part bs at n)) n) (Ok (Some (part bs at n), at + n)) (Err (Field (at + firstWrong (part bs at n)))))
     (Err (CutOff (length bs)))
 
 -- a flight word: its length byte, 1 to 8, then as many bytes
@@ -57,6 +57,6 @@ abbrev pub wordAt : (present : Bool) (bs : List ℕ) (at : ℕ) → Got (List �
 wordAt present bs at =
     cond present
     (cond (ltb at (length bs))
-    (cond (leb 1 (getD bs at 0) && leb (getD bs at 0) 8) (lettersAt (getD bs at 0) bs (at + 1)) (Err (Field at)))
+    (cond (leb 1 (getD bs at 0) && leb (getD bs at 0) 8) (wordBytesAt (getD bs at 0) bs (at + 1)) (Err (Field at)))
     (Err (CutOff (length bs))))
     (Ok (None, at))

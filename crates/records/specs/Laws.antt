@@ -20,8 +20,8 @@ Bytes bs = (i : ℕ) → getD bs i 0 < 256
 
 -- of bytes bs that read as the record r of length n
 pub record WasRead (bs : List ℕ) (r : RecordValue) (n : ℕ) : Type 0 where
-  -- it has 1 to 20 bytes, none past the end
-  pub some : 1 ≤ n
+  -- it has 2 to 20 bytes, none past the end, and can be written
+  pub some : 2 ≤ n
   pub short : n ≤ 20
   pub inside : n ≤ length bs
   pub valid : isRecord r ≡ true

@@ -3,7 +3,7 @@ use Prim.Native.Nat.{ℕ, _+_, _/_, _%_}
 use mathlib.Core.Bool.{Bool, true, cond, _&&_}
 use mathlib.Core.List.{List, [], _∷_, _++_}
 use lib.Dec.{leb, ltb}
-use lib.ListN.{length, take, drop}
+use lib.ListN.{length, drop}
 use Rattle.std.specs.declared.option.Option.{Option}
 use Rattle.std.specs.declared.option.Option.the-variants.{Some, None}
 use Rattle.std.specs.declared.result.Result.{Result}
@@ -72,7 +72,3 @@ writing r room =
 abbrev pub outputAfter : RecordValue → (was : List ℕ) → Result ℕ Refusal → List ℕ
 outputAfter r was (Ok n) = encode r ++ drop n was
 outputAfter r was (Err e) = was
-
--- xs written over what stands at a place
-unfoldable pub pasted : List ℕ → ℕ → List ℕ → List ℕ
-pasted out at xs = take at out ++ (xs ++ drop (at + length xs) out)

@@ -3,7 +3,7 @@ ghost use mathlib.Core.Path.{_≡_};
 ghost use Prim.Native.Nat.{_+_, _≤_};
 ghost use lib.ListN.{length};
 ghost use Rattle.std.specs.Vec.{made};
-ghost use Rattle.records.specs.Fields.{byteAt, fourAt, joinAt, lettersAt, wordAt};
+ghost use Rattle.records.specs.Fields.{byteAt, fourAt, joinAt, wordBytesAt, wordAt};
 ghost use Rattle.records.specs.Values.{gotBytes};
 use crate::fault::ReadFault;
 use keys::word::bytes::first_wrong;
@@ -69,9 +69,9 @@ pub(crate) fn read_four(
 }
 
 /// The bytes of a flight word of length `n`.
-fn read_letters(n: usize, input: &[u8], at: usize) -> Result<(Option<&[u8]>, usize), ReadFault>
+fn read_word_bytes(n: usize, input: &[u8], at: usize) -> Result<(Option<&[u8]>, usize), ReadFault>
     requires { ⌜ at ≤ length (now input) ⌝ }
-    ensures answer { λ r. ⌜ gotBytes r ≡ lettersAt n (now (input .entry)) at ⌝ }
+    ensures answer { λ r. ⌜ gotBytes r ≡ wordBytesAt n (now (input .entry)) at ⌝ }
     ensures within { λ r. ⌜ made r (λ p. p .1 ≤ length (now (input .entry))) ⌝ }
 {
     if input.len() - at < n {
@@ -105,5 +105,5 @@ pub(crate) fn read_word(
     if n < 1 || n > 8 {
         return Err(ReadFault::Field(at));
     }
-    read_letters(usize::from(n), input, at + 1)
+    read_word_bytes(usize::from(n), input, at + 1)
 }

@@ -5,7 +5,8 @@ ghost use mathlib.Core.Bool.{true};
 ghost use Prim.Native.Nat.{_+_, _≤_, _<_};
 ghost use lib.ListN.{length};
 ghost use Rattle.records.specs.Values.{bytesOf};
-ghost use Rattle.records.specs.Writing.{pasted, encodeByte, encodeFour, encodeWord, wordFits};
+ghost use Rattle.records.specs.Writing.{encodeByte, encodeFour, encodeWord, wordFits};
+ghost use Rattle.records.specs.Pasting.{pasted};
 
 fn put(out: &mut [u8], at: usize, byte: u8) -> usize
     requires { ⌜ at < length (now out) ⌝ }
@@ -41,7 +42,7 @@ pub(crate) fn put_four(field: Option<u32>, out: &mut [u8], at: usize) -> usize
     put(out, at, (v % 256) as u8)
 }
 
-fn put_letters(word: &[u8], out: &mut [u8], at: usize) -> usize
+fn put_bytes(word: &[u8], out: &mut [u8], at: usize) -> usize
     requires { ⌜ at + length (now word) ≤ length (now out) ⌝ }
     ensures place { λ r. ⌜ r ≡ at + length (now (word .entry)) ⌝ }
     ensures written { λ _. ⌜ now (out .exit) ≡ pasted (now (out .entry)) at (now (word .entry)) ⌝ }
@@ -63,5 +64,5 @@ pub(crate) fn put_word(field: Option<&[u8]>, out: &mut [u8], at: usize) -> usize
         return at;
     };
     let at = put(out, at, word.len() as u8);
-    put_letters(word, out, at)
+    put_bytes(word, out, at)
 }

@@ -41,6 +41,7 @@ fn read_fields(map: u8, input: &[u8]) -> Result<(Record<'_>, usize), ReadFault>
     ))
 }
 
+/// The reader's answer; `read` adds the laws.
 fn read_checked(input: &[u8]) -> Result<(Record<'_>, usize), ReadFault>
     ensures { λ r. ⌜ valued r ≡ reading (now (input .entry)) ⌝ }
 {

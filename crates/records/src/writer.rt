@@ -140,6 +140,7 @@ fn write_fields(given: &Record<'_>, map: u8, out: &mut [u8])
     let _ = put_word(given.flight, out, at);
 }
 
+/// The writer's answer and the output; `write` adds the laws.
 fn write_checked(given: &Record<'_>, out: &mut [u8]) -> Result<usize, Refusal>
     ensures answer { λ r. ⌜ r ≡ writing (valueOf (now (given .entry))) (length (now (out .entry))) ⌝ }
     ensures written { λ r. ⌜ now (out .exit) ≡ outputAfter (valueOf (now (given .entry))) (now (out .entry)) r ⌝ }

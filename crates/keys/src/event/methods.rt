@@ -1,11 +1,8 @@
-//! Event kinds made, read and compared: by size.
+//! Event kinds made and read.
 ghost use mathlib.Core.Path.{_≡_};
-ghost use lib.Dec.{ltb};
 ghost use Rattle.keys.specs.Values.{asked, eventOf};
 use crate::event::EventKind;
-use crate::kind::Kind;
 use crate::refusal::Refusal;
-use std::cmp::Ordering;
 
 impl EventKind {
     /// The event kind with this number; refused with 1 above 63.
@@ -22,13 +19,5 @@ impl EventKind {
         ensures { λ r. ⌜ r ≡ now (self .entry) .number ⌝ }
     {
         self.number
-    }
-}
-
-pub impl Kind for EventKind as EventOrder {
-    ghost less = { λ a b. ltb (a .number) (b .number) };
-
-    fn compare(&self, other: &EventKind) -> Ordering {
-        self.number.cmp(&other.number)
     }
 }

@@ -1,15 +1,11 @@
-//! Prefixes made, read and compared: by address as a number, then by the number of bits.
+//! Prefixes made and read.
 ghost use mathlib.Core.Path.{_≡_};
 ghost use Prim.Native.Nat.{_≤_};
-ghost use lib.Dec.{ltb};
 ghost use Rattle.std.specs.declared.option.Option.the-variants.{Some};
-ghost use Rattle.keys.specs.Orders.{byParts};
 ghost use Rattle.keys.specs.Prefixes.{lowBits};
 ghost use Rattle.keys.specs.Values.{asked, prefixOf, containingOf};
-use crate::kind::Kind;
 use crate::prefix::Prefix;
 use crate::refusal::Refusal;
-use std::cmp::Ordering;
 
 /// The bits after the first `bits`, as a number.
 fn low_bits(address: u32, bits: u8) -> u32
@@ -64,17 +60,5 @@ impl Prefix {
         ensures { λ r. ⌜ r ≡ now (self .entry) .bits ⌝ }
     {
         self.bits
-    }
-}
-
-pub impl Kind for Prefix as PrefixOrder {
-    ghost less = { λ a b. byParts ltb ltb (a .address) (a .bits) (b .address) (b .bits) };
-
-    fn compare(&self, other: &Prefix) -> Ordering {
-        match self.address.cmp(&other.address) {
-            Ordering::Less => Ordering::Less,
-            Ordering::Equal => self.bits.cmp(&other.bits),
-            Ordering::Greater => Ordering::Greater,
-        }
     }
 }

@@ -8,5 +8,5 @@ use Rattle.dump.proofs.lines.push_flight.Needs as need
 
 pub returns : need.returns
 returns c =
-    three (string-bytes (c .args .text .now)) _ _ _ _ _ _ (c .in-Continue-write .ensures tt .bytes) (c .in-Continue-push-letters .ensures tt) (c .in-Continue-write-2 .ensures tt .bytes)
+    three (string-bytes (c .args .text .now)) _ _ _ _ _ _ (c .in-Continue-write .ensures tt .bytes) (c .in-Continue-push-bytes .ensures tt) (c .in-Continue-write-2 .ensures tt .bytes)
     ∙ ap (λ f. string-bytes (c .args .text .now) ++ flightPart (bytesOf f)) (sym (c .in-Some .is))

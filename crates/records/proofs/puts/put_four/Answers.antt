@@ -3,7 +3,8 @@ use Prim.Native.Nat.{ℕ, _/_, _%_, _+_, _≤_}
 use mathlib.Core.Path.{_≡_, ap, _∙_, sym}
 use mathlib.Core.List.{[], _∷_}
 use lib.ListN.{length}
-use Rattle.records.specs.Writing.{pasted, encodeFour}
+use Rattle.records.specs.Writing.{encodeFour}
+use Rattle.records.specs.Pasting.{pasted}
 use Rattle.records.proofs.Paste.{unmoved, onward}
 use Rattle.records.proofs.puts.put_four.Needs as need
 

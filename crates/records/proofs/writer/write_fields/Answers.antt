@@ -4,7 +4,8 @@ use mathlib.Core.Path.{_≡_, ap, _∙_, sym}
 use mathlib.Core.List.{[], _∷_, _++_}
 use lib.ListN.{length, drop}
 use Rattle.records.specs.Values.{RecordValue, bytesOf, valueOf}
-use Rattle.records.specs.Writing.{pasted, mapOf, encodeByte, encodeFour, encodeWord, encode}
+use Rattle.records.specs.Writing.{mapOf, encodeByte, encodeFour, encodeWord, encode}
+use Rattle.records.specs.Pasting.{pasted}
 use Rattle.records.proofs.Rounds.{encode-length}
 use Rattle.records.proofs.Paste.{Front, go-on, pasted-start}
 use Rattle.records.proofs.writer.write_fields.Needs as need
