@@ -26,6 +26,7 @@ fn widened(field: Option<u8>) -> Option<u32>
     }
 }
 
+/// A field that is a number, with its name.
 fn push_number(text: &mut String, name: &str, field: Option<u32>) -> fmt::Result
     ensures { λ r. ⌜ made r (λ _. string-bytes (now (text .exit)) ≡ string-bytes (now (text .entry)) ++ numberPart (now (name .entry)) field) ⌝ }
 {
@@ -35,6 +36,7 @@ fn push_number(text: &mut String, name: &str, field: Option<u32>) -> fmt::Result
     }
 }
 
+/// The source address as its four bytes.
 fn push_source(text: &mut String, field: Option<u32>) -> fmt::Result
     ensures { λ r. ⌜ made r (λ _. string-bytes (now (text .exit)) ≡ string-bytes (now (text .entry)) ++ sourcePart field) ⌝ }
 {
@@ -50,6 +52,7 @@ fn push_source(text: &mut String, field: Option<u32>) -> fmt::Result
     }
 }
 
+/// The bytes of a flight word, which are all characters.
 fn push_bytes(text: &mut String, word: &[u8]) -> fmt::Result
     requires { ⌜ isWord (now word) ≡ true ⌝ }
     ensures { λ r. ⌜ made r (λ _. string-bytes (now (text .exit)) ≡ string-bytes (now (text .entry)) ++ now (word .entry)) ⌝ }
@@ -61,6 +64,7 @@ fn push_bytes(text: &mut String, word: &[u8]) -> fmt::Result
     Ok(())
 }
 
+/// The flight word in quotes.
 fn push_flight(text: &mut String, field: Option<&[u8]>) -> fmt::Result
     requires { ⌜ wordFits (bytesOf field) ≡ true ⌝ }
     ensures { λ r. ⌜ made r (λ _. string-bytes (now (text .exit)) ≡ string-bytes (now (text .entry)) ++ flightPart (bytesOf (field .entry))) ⌝ }
@@ -74,6 +78,7 @@ fn push_flight(text: &mut String, field: Option<&[u8]>) -> fmt::Result
     Ok(())
 }
 
+/// The line of a record.
 fn push_record(text: &mut String, index: usize, given: &Record<'_>) -> fmt::Result
     requires { ⌜ wordFits (bytesOf (now given .flight)) ≡ true ⌝ }
     ensures { λ r. ⌜ made r (λ _. string-bytes (now (text .exit)) ≡ string-bytes (now (text .entry)) ++ lineOf index (valueOf (now (given .entry)))) ⌝ }
@@ -88,6 +93,7 @@ fn push_record(text: &mut String, index: usize, given: &Record<'_>) -> fmt::Resu
     Ok(())
 }
 
+/// The last line of a torn log: the fault in the record that begins at `at`.
 fn push_fault(text: &mut String, fault: ReadFault, index: usize, at: usize) -> fmt::Result
     requires { ⌜ at + placeOf fault < 2 ^ 64 ⌝ }
     ensures { λ r. ⌜ made r (λ _. string-bytes (now (text .exit)) ≡ string-bytes (now (text .entry)) ++ textFrom index (stopped fault index at)) ⌝ }
@@ -97,12 +103,14 @@ fn push_fault(text: &mut String, fault: ReadFault, index: usize, at: usize) -> f
     write!(text, "fault 1 {number} {index} {offset}\n")
 }
 
+/// The last line of a whole log.
 fn push_count(text: &mut String, count: usize) -> fmt::Result
     ensures { λ r. ⌜ made r (λ _. string-bytes (now (text .exit)) ≡ string-bytes (now (text .entry)) ++ textFrom count ended) ⌝ }
 {
     write!(text, "records {count}\n")
 }
 
+/// All lines of a log.
 pub(crate) fn push_log(text: &mut String, log: &[u8]) -> fmt::Result
     ensures { λ r. ⌜ made r (λ _. string-bytes (now (text .exit)) ≡ string-bytes (now (text .entry)) ++ textOf (logOf (now (log .entry)))) ⌝ }
 {

@@ -1,5 +1,5 @@
 -- A key is the one that its parts make, so what `make` answers is known from the parts.
-use Prim.Native.Nat.{ℕ}
+use Prim.Native.Nat.{ℕ, _+_, _-_, _*_, _/_, _%_, _^_, _<_}
 use mathlib.Core.Path.{_≡_, refl, sym, ap, _∙_}
 use mathlib.Core.Bool.{Bool, true, false, _&&_, true≢false}
 use mathlib.Core.List.{List}
@@ -7,19 +7,17 @@ use native.Mathlib.Omega.{arith}
 use borrow.Author.Tests.{le-leb, eq-eqb}
 use lib.Dec.{leb, eqb}
 use lib.ListN.{length}
+use Rattle.std.proofs.shelf.Bits.{shr-split, shr-high, mod-below, pow-pos}
 use Rattle.std.proofs.shelf.Tests.{and-from}
 use Rattle.std.proofs.shelf.Lists.{length-take-le}
-use Rattle.std.specs.declared.option.Option.{Option}
-use Rattle.std.specs.declared.option.Option.the-variants.{Some, None}
-use Rattle.std.specs.declared.result.Result.{Result}
-use Rattle.std.specs.declared.result.Result.the-variants.{Ok, Err}
-use Rattle.keys.specs.declared.refusal.Refusal.{Refusal}
+use Rattle.std.specs.declared.option.Option.the-variants.{Some}
+use Rattle.std.specs.declared.result.Result.the-variants.{Ok}
 use Rattle.keys.specs.declared.event.EventKind.{EventKind}
 use Rattle.keys.specs.declared.prefix.Prefix.{Prefix}
 use Rattle.keys.specs.declared.word.FlightWord.{FlightWord}
 use Rattle.keys.specs.Prefixes.{lowBits, firstBits, isPrefix}
 use Rattle.keys.specs.Words.{firstWrong, isWord}
-use Rattle.keys.specs.Values.{whenTrue, asked, eventOf, prefixOf, containingOf, wordOf, bytesOf, zeroed-word}
+use Rattle.keys.specs.Values.{whenTrue, asked, eventOf, prefixOf, containingOf, OnlyContaining, wordOf, bytesOf, zeroed-word}
 use Rattle.keys.proofs.Same.{same-event, same-prefix, same-word}
 
 -- a value whose test passes
@@ -38,6 +36,27 @@ prefix-made k =
 
 pub prefix-containing : (address : ℕ) (k : Prefix) → k .address ≡ firstBits (k .bits) address → Some k ≡ containingOf (k .bits) address
 prefix-containing address k e = given-true (leb (k .bits) 32) _ k (le-leb (k .bits) 32 (k .whole)) (λ p. same-prefix k _ e refl)
+
+-- whatever prefix of the same length contains the address has the same first bits
+pub only-containing : (address : ℕ) (k : Prefix) → k .address ≡ firstBits (k .bits) address → OnlyContaining (k .bits) address k
+only-containing address k e =
+    let low : ℕ = 32 - k .bits in
+    let split = shr-split address low in
+    let below = mod-below address (2 ^ low) (pow-pos low) in
+    record {
+      long = refl;
+      contains = (omega (arith, e, split), omega (arith, e, split, below));
+      only = λ q same inside.
+          let low-same : 2 ^ (32 - q .bits) ≡ 2 ^ low = ap (λ n. 2 ^ (32 - n)) same in
+          let clear : q .address % 2 ^ low ≡ 0 = ap (λ n. q .address % n) (sym low-same) ∙ q .clear in
+          let whole = shr-split (q .address) low in
+          let rest : ℕ = address - q .address in
+          let small : rest < 2 ^ low = omega (arith, inside .0, inside .1, low-same) in
+          let is : address ≡ q .address / 2 ^ low * 2 ^ low + rest = omega (arith, inside .0, whole, clear) in
+          let first : address / 2 ^ low ≡ q .address / 2 ^ low = ap (λ n. n / 2 ^ low) is ∙ shr-high (q .address / 2 ^ low) low rest small in
+          let found : q .address ≡ k .address = omega (arith, e, ap (λ n. n * 2 ^ low) first, whole, clear) in
+          same-prefix q k found same;
+    }
 
 pub word-length : (k : FlightWord) → length (bytesOf k) ≡ k .len
 word-length k = length-take-le (k .len) (k .bytes) (omega arith)

@@ -1,8 +1,6 @@
 -- Keys with equal fields are equal.
-use Prim.Native.Nat.{ℕ, _≤_, _-_, _%_, _^_}
-use mathlib.Core.Path.{_≡_, refl, sym, ap, _∙_}
-use mathlib.Core.Bool.{true}
-use mathlib.Core.List.{List, _++_}
+use Prim.Native.Nat.{ℕ, _≤_, _-_}
+use mathlib.Core.Path.{_≡_, sym, ap, _∙_}
 use mathlib.Core.HLevel.{isProp→PathP}
 use native.Mathlib.Bridge.{le-prop}
 use native.Mathlib.Omega.{arith}

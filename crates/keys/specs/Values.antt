@@ -1,5 +1,5 @@
 -- Keys as values: which numbers, bits and bytes make one, and what `make` answers.
-use Prim.Native.Nat.{ℕ, _-_, _*_, _/_, _%_, _^_, _≤_}
+use Prim.Native.Nat.{ℕ, _+_, _-_, _/_, _^_, _≤_, _<_}
 use mathlib.Core.Path.{_≡_, refl, ap, _∙_}
 use mathlib.Core.Bool.{Bool, true, false, _&&_}
 use mathlib.Core.List.{List, _++_}
@@ -60,6 +60,16 @@ containingOf p address =
       whole = leb-true p 32 h;
       clear = first-clear p address;
     })
+
+-- the addresses of a prefix: from its own on, as many as the bits after the first p can count
+abbrev pub Contains : Prefix → ℕ → Type 0
+Contains k address = (k .address ≤ address) × (address < k .address + 2 ^ (32 - k .bits))
+
+-- the one prefix of length p that contains an address
+pub record OnlyContaining (p address : ℕ) (k : Prefix) : Type 0 where
+  pub long : k .bits ≡ p
+  pub contains : Contains k address
+  pub only : (q : Prefix) → q .bits ≡ p → Contains q address → q ≡ k
 
 -- a word, then zeros up to 8 bytes
 abbrev pub zeroed : List ℕ → List ℕ

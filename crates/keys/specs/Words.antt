@@ -6,6 +6,7 @@ use mathlib.Core.List.{List, [], _∷_}
 use lib.Dec.{eqb, leb, ltb}
 use lib.ListN.{length, getD}
 
+-- a byte of a flight word
 abbrev pub wordByte : ℕ → Bool
 wordByte b = leb 0x20 b && leb b 0x5F
 

@@ -1,22 +1,21 @@
 -- Reading what was written.
-use Prim.Native.Nat.{ℕ, _+_, _/_, _%_, _≤_, _<_}
+use Prim.Native.Nat.{ℕ, _+_, _/_, _%_}
 use mathlib.Core.Path.{_≡_, refl, sym, _∙_, ap}
-use mathlib.Core.Bool.{Bool, true, false, cond, _&&_}
+use mathlib.Core.Bool.{Bool, true, _&&_}
 use mathlib.Core.List.{List, [], _∷_, _++_, append-assoc}
 use native.Mathlib.Omega.{arith}
-use native.Mathlib.Nat.{add-zero}
 use lib.Dec.{eqb, leb, ltb}
 use lib.ListN.{length, getD, take, drop}
 use Rattle.std.specs.declared.option.Option.{Option}
 use Rattle.std.specs.declared.option.Option.the-variants.{Some, None}
 use Rattle.std.specs.declared.result.Result.{Result}
-use Rattle.std.specs.declared.result.Result.the-variants.{Ok, Err}
+use Rattle.std.specs.declared.result.Result.the-variants.{Ok}
 use Rattle.std.specs.Options.{isSome}
 use Rattle.std.proofs.shelf.Lists.{length-append, getD-append-add, getD-at, take-at, drop-at, append-nil}
-use Rattle.std.proofs.shelf.Tests.{and-parts, le-leb, lt-ltb, leb-true, ltb-true, cond-true, and-from}
+use Rattle.std.proofs.shelf.Tests.{and-parts, le-leb, lt-ltb, ltb-true, cond-true, and-from}
 use Rattle.records.specs.declared.fault.ReadFault.{ReadFault}
 use Rattle.keys.specs.Words.{firstWrong}
-use Rattle.records.specs.Fields.{Got, byteAt, fourAt, wordAt, wordBytesAt, joinAt, join, part}
+use Rattle.records.specs.Fields.{Got, byteAt, fourAt, wordAt, joinAt, part}
 use Rattle.records.specs.Values.{RecordValue}
 use Rattle.records.specs.Reading.{next, bit, fieldsOf, reading}
 use Rattle.records.specs.Writing.{encodeByte, encodeFour, encodeWord, within, wordFits, inRange, mapOf, encode}

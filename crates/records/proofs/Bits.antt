@@ -1,8 +1,7 @@
 -- The map byte and its bits; four bytes and their number.
 use Prim.Native.Nat.{ℕ, _+_, _*_, _/_, _%_, _≤_, _<_}
 use mathlib.Core.Path.{_≡_, refl, sym, _∙_, ap}
-use mathlib.Core.Bool.{Bool, true, false}
-use mathlib.Core.List.{List, [], _∷_}
+use mathlib.Core.List.{[], _∷_}
 use native.Mathlib.Omega.{arith}
 use lib.Dec.{eqb}
 use Rattle.std.specs.declared.option.Option.{Option}
@@ -46,27 +45,43 @@ one-from : {A : Type 0} (f : Option A) (n : ℕ) → n ≤ 1 → eqb n 1 ≡ isS
 one-from (Some x) n l e = sym (eqb-true n 1 e)
 one-from None n l e = omega (arith, eqb-false n 1 e)
 
-module _ (r : RecordValue) where
-  map-is : mapOf r ≡ one (r .time) + 2 * one (r .kind) + 4 * one (r .console) + 8 * one (r .source) + 16 * one (r .flight)
-  map-is = omega (arith, weight-one (r .time) 1, weight-one (r .kind) 2, weight-one (r .console) 4, weight-one (r .source) 8, weight-one (r .flight) 16)
+-- the map as five bits, each 0 or 1
+record MapBits (r : RecordValue) : Type 0 where
+  is : mapOf r ≡ one (r .time) + 2 * one (r .kind) + 4 * one (r .console) + 8 * one (r .source) + 16 * one (r .flight)
+  time : one (r .time) ≤ 1
+  kind : one (r .kind) ≤ 1
+  console : one (r .console) ≤ 1
+  source : one (r .source) ≤ 1
+  flight : one (r .flight) ≤ 1
 
+map-bits : (r : RecordValue) → MapBits r
+map-bits r = record {
+  is = omega (arith, weight-one (r .time) 1, weight-one (r .kind) 2, weight-one (r .console) 4, weight-one (r .source) 8, weight-one (r .flight) 16);
+  time = one-small (r .time);
+  kind = one-small (r .kind);
+  console = one-small (r .console);
+  source = one-small (r .source);
+  flight = one-small (r .flight);
+}
+
+module _ (r : RecordValue) where
   pub map-small : mapOf r ≤ 31
-  map-small = omega (arith, map-is, one-small (r .time), one-small (r .kind), one-small (r .console), one-small (r .source), one-small (r .flight))
+  map-small = let m = map-bits r in omega arith
 
   pub bit-time : bit (mapOf r) 1 ≡ isSome (r .time)
-  bit-time = ap (λ n. eqb n 1) (omega (arith, map-is, one-small (r .time), one-small (r .kind), one-small (r .console), one-small (r .source), one-small (r .flight))) ∙ one-is (r .time)
+  bit-time = let m = map-bits r in ap (λ n. eqb n 1) (omega arith) ∙ one-is (r .time)
 
   pub bit-kind : bit (mapOf r) 2 ≡ isSome (r .kind)
-  bit-kind = ap (λ n. eqb n 1) (omega (arith, map-is, one-small (r .time), one-small (r .kind), one-small (r .console), one-small (r .source), one-small (r .flight))) ∙ one-is (r .kind)
+  bit-kind = let m = map-bits r in ap (λ n. eqb n 1) (omega arith) ∙ one-is (r .kind)
 
   pub bit-console : bit (mapOf r) 4 ≡ isSome (r .console)
-  bit-console = ap (λ n. eqb n 1) (omega (arith, map-is, one-small (r .time), one-small (r .kind), one-small (r .console), one-small (r .source), one-small (r .flight))) ∙ one-is (r .console)
+  bit-console = let m = map-bits r in ap (λ n. eqb n 1) (omega arith) ∙ one-is (r .console)
 
   pub bit-source : bit (mapOf r) 8 ≡ isSome (r .source)
-  bit-source = ap (λ n. eqb n 1) (omega (arith, map-is, one-small (r .time), one-small (r .kind), one-small (r .console), one-small (r .source), one-small (r .flight))) ∙ one-is (r .source)
+  bit-source = let m = map-bits r in ap (λ n. eqb n 1) (omega arith) ∙ one-is (r .source)
 
   pub bit-flight : bit (mapOf r) 16 ≡ isSome (r .flight)
-  bit-flight = ap (λ n. eqb n 1) (omega (arith, map-is, one-small (r .time), one-small (r .kind), one-small (r .console), one-small (r .source), one-small (r .flight))) ∙ one-is (r .flight)
+  bit-flight = let m = map-bits r in ap (λ n. eqb n 1) (omega arith) ∙ one-is (r .flight)
 
   -- a map whose bits are the fields' is the record's
   pub map-from : (m : ℕ) → m ≤ 31 → bit m 1 ≡ isSome (r .time) → bit m 2 ≡ isSome (r .kind) → bit m 4 ≡ isSome (r .console) →
@@ -74,7 +89,7 @@ module _ (r : RecordValue) where
   map-from m l t k o s w =
       omega (
         arith,
-        map-is,
+        map-bits r .is,
         one-from (r .time) (m / 1 % 2) (omega arith) t,
         one-from (r .kind) (m / 2 % 2) (omega arith) k,
         one-from (r .console) (m / 4 % 2) (omega arith) o,

@@ -1,24 +1,23 @@
 -- Writing what was read.
-use Prim.Native.Nat.{ℕ, zero, suc, _+_, _/_, _%_, _≤_, _<_}
+use Prim.Native.Nat.{ℕ, _+_, _≤_, _<_}
 use mathlib.Core.Path.{_≡_, refl, sym, _∙_, ap, subst}
 use mathlib.Core.Bool.{Bool, true, false, cond, _&&_}
 use mathlib.Core.List.{List, [], _∷_, _++_, append-assoc}
 use native.Mathlib.Omega.{arith}
-use native.Mathlib.Nat.{add-zero, add-assoc}
 use lib.Dec.{eqb, leb, ltb}
 use lib.ListN.{length, getD, take, drop, length-take, length-drop}
 use lib.Seq.{take-add}
 use Rattle.std.specs.declared.option.Option.{Option}
-use Rattle.std.specs.declared.option.Option.the-variants.{Some, None}
+use Rattle.std.specs.declared.option.Option.the-variants.{Some}
 use Rattle.std.specs.declared.result.Result.{Result}
 use Rattle.std.specs.declared.result.Result.the-variants.{Ok, Err}
 use Rattle.std.specs.Options.{isSome}
 use Rattle.std.proofs.shelf.Lists.{append-nil, take-more, drop-more}
-use Rattle.std.proofs.shelf.Tests.{and-parts, and-from, le-leb, lt-ltb, leb-true, ltb-true, eqb-true, eq-eqb}
+use Rattle.std.proofs.shelf.Tests.{and-parts, and-from, le-leb, lt-ltb, leb-true, ltb-true}
 use Rattle.records.specs.declared.fault.ReadFault.{ReadFault}
 use Rattle.records.specs.declared.fault.ReadFault.the-variants.{Map, CutOff, Field}
 use Rattle.keys.specs.Words.{firstWrong}
-use Rattle.records.specs.Fields.{Got, byteAt, fourAt, wordAt, wordBytesAt, joinAt, join, part}
+use Rattle.records.specs.Fields.{Got, byteAt, fourAt, wordAt, wordBytesAt, joinAt, part}
 use Rattle.records.specs.Values.{RecordValue}
 use Rattle.records.specs.Reading.{next, bit, fieldsOf, reading}
 use Rattle.records.specs.Writing.{encodeByte, encodeFour, encodeWord, within, wordFits, inRange, mapOf, encode}

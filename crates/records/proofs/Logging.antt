@@ -1,13 +1,12 @@
 -- A log's bytes split into records in one way, which is how the log is read. Idea: each record read takes at least one
 -- byte, so turns do not matter, and a record's encoding reads as that record whatever follows.
-use Prim.Native.Nat.{ℕ, zero, suc, _+_, _-_, _≤_, _<_}
+use Prim.Native.Nat.{ℕ, zero, suc, _+_, _-_, _≤_}
 use mathlib.Core.Path.{_≡_, refl, sym, _∙_, ap, subst}
-use mathlib.Core.Bool.{Bool, true, _&&_}
+use mathlib.Core.Bool.{true}
 use mathlib.Core.List.{List, [], _∷_, _++_, append-assoc}
 use native.Mathlib.Omega.{arith}
-use native.Mathlib.Nat.{add-zero, zero-add}
 use lib.Dec.{ltb}
-use lib.ListN.{length, getD, take, drop}
+use lib.ListN.{length, take, drop}
 use Rattle.std.specs.declared.option.Option.{Option}
 use Rattle.std.specs.declared.option.Option.the-variants.{Some, None}
 use Rattle.std.specs.declared.result.Result.{Result}
@@ -19,8 +18,8 @@ use Rattle.records.specs.Faults.{placeOf}
 use Rattle.records.specs.Values.{RecordValue}
 use Rattle.records.specs.Reading.{reading}
 use Rattle.records.specs.Writing.{mapOf, inRange, isRecord, encode}
-use Rattle.records.specs.Laws.{Bytes, WasRead}
-use Rattle.records.specs.Logs.{LogFault, Log, ended, stopped, more, onRead, readTurns, logFrom, logOf, allRecords, encodeAll, EndsAs, Splits, LogLaws}
+use Rattle.records.specs.Laws.{Bytes}
+use Rattle.records.specs.Logs.{LogFault, Log, ended, stopped, more, onRead, readTurns, logFrom, allRecords, encodeAll, EndsAs, Splits, LogLaws}
 use Rattle.records.proofs.Back.{reads-back}
 use Rattle.records.proofs.Rounds.{was-read}
 

@@ -1,12 +1,12 @@
 -- The laws of reader and writer at an answer: what was read writes back, what was written reads back, one encoding.
 use Prim.Native.Nat.{ℕ, _+_, _≤_, _<_}
-use mathlib.Core.Path.{_≡_, refl, sym, _∙_, ap, subst}
-use mathlib.Core.Bool.{Bool, true, cond, _&&_}
-use mathlib.Core.List.{List, [], _∷_, _++_}
+use mathlib.Core.Path.{_≡_, refl, sym, _∙_, ap}
+use mathlib.Core.Bool.{true, cond, _&&_}
+use mathlib.Core.List.{List, [], _++_}
 use mathlib.Core.Logic.{⊎-elim}
 use native.Mathlib.Omega.{arith}
 use lib.Dec.{eqb, leb, ltb}
-use lib.ListN.{length, getD, take}
+use lib.ListN.{length}
 use Rattle.std.specs.declared.option.Option.{Option}
 use Rattle.std.specs.declared.option.Option.the-variants.{Some, None}
 use Rattle.std.specs.declared.result.Result.{Result}
@@ -18,13 +18,10 @@ use Rattle.keys.specs.declared.refusal.Refusal.the-variants.{Field, NoRoom}
 use Rattle.keys.specs.declared.refusal.Refusal.the-variants as refusal
 use Rattle.keys.specs.Words.{firstWrong}
 use Rattle.records.specs.declared.fault.ReadFault.{ReadFault}
-use Rattle.records.specs.declared.fault.ReadFault.the-variants as fault
-use Rattle.records.specs.Faults.{placeOf}
-use Rattle.records.specs.Fields.{Got, byteAt, fourAt, wordAt, wordBytesAt, joinAt, part}
 use Rattle.records.specs.Values.{RecordValue}
-use Rattle.records.specs.Reading.{next, bit, fieldsOf, reading}
+use Rattle.records.specs.Reading.{reading}
 use Rattle.records.specs.Writing.{weight, encodeByte, encodeFour, encodeWord, within, wordFits, inRange, mapOf, encode, writing}
-use Rattle.records.specs.Laws.{Bytes, WasRead, ReadLaws, WasWritten, WriteLaws}
+use Rattle.records.specs.Laws.{Bytes, WasRead, ReadLaws, WriteLaws}
 use Rattle.records.proofs.Back.{reads-back}
 use Rattle.records.proofs.Forth.{writes-back, ok-same, cond-ok}
 use Rattle.records.proofs.Torn.{cut-off, fault-inside}

@@ -20,10 +20,12 @@ pub record LogFault : Type 0 where
   pub index : ℕ
   pub offset : ℕ
 
+-- what a log holds: the records before the first fault, and that fault if one came
 pub record Log : Type 0 where
   pub records : List RecordValue
   pub fault : Option LogFault
 
+-- nothing is left
 abbrev pub ended : Log
 ended = record { records = []; fault = None }
 
@@ -35,6 +37,7 @@ stopped f index offset = record { records = []; fault = Some (record { fault = f
 abbrev pub more : RecordValue → Log → Log
 more r log = record { records = r ∷ log .records; fault = log .fault }
 
+-- by the reader's answer: go on, or stop
 abbrev pub onRead : Result (RecordValue × ℕ) ReadFault → (RecordValue → ℕ → Log) → (ReadFault → Log) → Log
 onRead (Ok p) go stop = go (p .0) (p .1)
 onRead (Err f) go stop = stop f
@@ -50,9 +53,11 @@ readTurns (suc turns) index offset (b ∷ bs) =
 abbrev pub logFrom : (index offset : ℕ) → List ℕ → Log
 logFrom index offset bs = readTurns (length bs) index offset bs
 
+-- what a log holds
 abbrev pub logOf : List ℕ → Log
 logOf bs = logFrom 0 0 bs
 
+-- each can be written
 abbrev pub allRecords : List RecordValue → Bool
 allRecords [] = true
 allRecords (r ∷ rs) = isRecord r && allRecords rs

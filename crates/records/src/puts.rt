@@ -8,6 +8,7 @@ ghost use Rattle.records.specs.Values.{bytesOf};
 ghost use Rattle.records.specs.Writing.{encodeByte, encodeFour, encodeWord, wordFits};
 ghost use Rattle.records.specs.Pasting.{pasted};
 
+/// One byte.
 fn put(out: &mut [u8], at: usize, byte: u8) -> usize
     requires { ⌜ at < length (now out) ⌝ }
     ensures place { λ r. ⌜ r ≡ at + 1 ⌝ }
@@ -17,6 +18,7 @@ fn put(out: &mut [u8], at: usize, byte: u8) -> usize
     at + 1
 }
 
+/// A field of one byte, if it is present.
 pub(crate) fn put_byte(field: Option<u8>, out: &mut [u8], at: usize) -> usize
     requires { ⌜ at + length (encodeByte field) ≤ length (now out) ⌝ }
     ensures place { λ r. ⌜ r ≡ at + length (encodeByte field) ⌝ }
@@ -28,6 +30,7 @@ pub(crate) fn put_byte(field: Option<u8>, out: &mut [u8], at: usize) -> usize
     }
 }
 
+/// A field of four bytes, the highest first, if it is present.
 pub(crate) fn put_four(field: Option<u32>, out: &mut [u8], at: usize) -> usize
     requires { ⌜ at + length (encodeFour field) ≤ length (now out) ⌝ }
     ensures place { λ r. ⌜ r ≡ at + length (encodeFour field) ⌝ }
@@ -42,6 +45,7 @@ pub(crate) fn put_four(field: Option<u32>, out: &mut [u8], at: usize) -> usize
     put(out, at, (v % 256) as u8)
 }
 
+/// Bytes as they are.
 fn put_bytes(word: &[u8], out: &mut [u8], at: usize) -> usize
     requires { ⌜ at + length (now word) ≤ length (now out) ⌝ }
     ensures place { λ r. ⌜ r ≡ at + length (now (word .entry)) ⌝ }
@@ -54,6 +58,7 @@ fn put_bytes(word: &[u8], out: &mut [u8], at: usize) -> usize
     next
 }
 
+/// A flight word, if it is present: its length, then its bytes.
 pub(crate) fn put_word(field: Option<&[u8]>, out: &mut [u8], at: usize) -> usize
     requires { ⌜ wordFits (bytesOf field) ≡ true ⌝ }
     requires { ⌜ at + length (encodeWord (bytesOf field)) ≤ length (now out) ⌝ }

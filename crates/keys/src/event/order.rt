@@ -7,6 +7,7 @@ use crate::event::EventKind;
 use crate::kind::Kind;
 use std::cmp::Ordering;
 
+/// What `compare` answers.
 fn by_number(a: &EventKind, b: &EventKind) -> Ordering
     ensures { λ r. ⌜ Ranked r (ltb (now (a .entry) .number) (now (b .entry) .number) ≡ true) (now (a .entry) ≡ now (b .entry)) (ltb (now (b .entry) .number) (now (a .entry) .number) ≡ true) ⌝ }
 {

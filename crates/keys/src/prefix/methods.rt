@@ -1,9 +1,10 @@
 //! Prefixes made and read.
 ghost use mathlib.Core.Path.{_≡_};
 ghost use Prim.Native.Nat.{_≤_};
+ghost use Rattle.std.specs.Vec.{made};
 ghost use Rattle.std.specs.declared.option.Option.the-variants.{Some};
 ghost use Rattle.keys.specs.Prefixes.{lowBits};
-ghost use Rattle.keys.specs.Values.{asked, prefixOf, containingOf};
+ghost use Rattle.keys.specs.Values.{asked, prefixOf, containingOf, OnlyContaining};
 use crate::prefix::Prefix;
 use crate::refusal::Refusal;
 
@@ -31,7 +32,8 @@ impl Prefix {
     /// The prefix of this length that contains the address: its first `bits` bits, then zeros.
     fn clear_after(address: u32, bits: u8) -> Prefix
         requires { ⌜ bits ≤ 32 ⌝ }
-        ensures { λ r. ⌜ Some r ≡ containingOf bits address ⌝ }
+        ensures value { λ r. ⌜ Some r ≡ containingOf bits address ⌝ }
+        ensures law { λ r. ⌜ OnlyContaining bits address r ⌝ }
     {
         Prefix {
             address: address - low_bits(address, bits),
@@ -41,7 +43,8 @@ impl Prefix {
 
     /// The prefix of this length that contains the address; refused with 1 if `bits` is above 32.
     pub fn containing(address: u32, bits: u8) -> Result<Prefix, Refusal>
-        ensures { λ r. ⌜ r ≡ asked (containingOf bits address) ⌝ }
+        ensures answer { λ r. ⌜ r ≡ asked (containingOf bits address) ⌝ }
+        ensures law { λ r. ⌜ made r (λ k. OnlyContaining bits address k) ⌝ }
     {
         if bits > 32 {
             return Err(Refusal::OutOfRange);

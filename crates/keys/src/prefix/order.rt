@@ -8,7 +8,7 @@ use crate::kind::Kind;
 use crate::prefix::Prefix;
 use std::cmp::Ordering;
 
-/// Prefixes of one address.
+/// What `compare` answers of prefixes with one address.
 fn by_bits(a: &Prefix, b: &Prefix) -> Ordering
     requires { ⌜ now a .address ≡ now b .address ⌝ }
     ensures { λ r. ⌜ Ranked r (ltb (now (a .entry) .bits) (now (b .entry) .bits) ≡ true) (now (a .entry) ≡ now (b .entry)) (ltb (now (b .entry) .bits) (now (a .entry) .bits) ≡ true) ⌝ }

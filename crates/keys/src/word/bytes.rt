@@ -11,6 +11,7 @@ fn is_word_byte(byte: u8) -> bool
     0x20 <= byte && byte <= 0x5F
 }
 
+/// The place of the first wrong byte, told by what it means; `first_wrong` tells it by its definition too.
 fn scan(bytes: &[u8]) -> usize
     ensures within { λ r. ⌜ r ≤ length (now (bytes .entry)) ⌝ }
     ensures before { λ r. ⌜ ((i : ℕ) → i < r → wordByte (getD (now (bytes .entry)) i 0) ≡ true) ⌝ }

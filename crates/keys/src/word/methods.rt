@@ -24,6 +24,7 @@ fn padded(word: &[u8]) -> [u8; 8]
 }
 
 impl FlightWord {
+    /// The word of bytes that make one.
     fn stored(word: &[u8]) -> FlightWord
         requires { ⌜ isWord (now word) ≡ true ⌝ }
         ensures { λ r. ⌜ Some r ≡ wordOf (now (word .entry)) ⌝ }

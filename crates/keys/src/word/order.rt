@@ -8,6 +8,7 @@ use crate::kind::Kind;
 use crate::word::FlightWord;
 use std::cmp::Ordering;
 
+/// What `compare` answers.
 fn by_bytes(a: &FlightWord, b: &FlightWord) -> Ordering
     ensures { λ r. ⌜ Ranked r (lessWord (bytesOf (now (a .entry))) (bytesOf (now (b .entry))) ≡ true) (now (a .entry) ≡ now (b .entry)) (lessWord (bytesOf (now (b .entry))) (bytesOf (now (a .entry))) ≡ true) ⌝ }
 {

@@ -1,6 +1,5 @@
 use native.Mathlib.Omega.{arith}
-use mathlib.Core.Path.{_≡_, ap, _∙_, sym, refl}
-use lib.ListN.{length, take}
+use mathlib.Core.Path.{ap, _∙_, sym}
 use Rattle.std.proofs.shelf.Lists.{take-more, take-all, length-take-le}
 use Rattle.records.specs.Pasting.{pasted}
 use Rattle.records.proofs.Paste.{pasted-nil, onward}

@@ -1,9 +1,9 @@
 use native.Mathlib.Omega.{arith}
-use Prim.Native.Nat.{ℕ, _+_, _≤_}
-use mathlib.Core.Path.{_≡_, ap, _∙_, sym}
-use mathlib.Core.List.{[], _∷_, _++_}
-use lib.ListN.{length, drop}
-use Rattle.records.specs.Values.{RecordValue, bytesOf, valueOf}
+use Prim.Native.Nat.{_≤_}
+use mathlib.Core.Path.{ap, _∙_}
+use mathlib.Core.List.{[], _∷_}
+use lib.ListN.{length}
+use Rattle.records.specs.Values.{RecordValue, valueOf}
 use Rattle.records.specs.Writing.{mapOf, encodeByte, encodeFour, encodeWord, encode}
 use Rattle.records.specs.Pasting.{pasted}
 use Rattle.records.proofs.Rounds.{encode-length}

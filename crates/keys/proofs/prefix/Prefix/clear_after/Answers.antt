@@ -3,7 +3,7 @@ use mathlib.Core.Path.{_≡_, ap, _∙_}
 use native.Mathlib.Omega.{arith}
 use Rattle.keys.specs.Values.{first-clear}
 use Rattle.std.proofs.shelf.Bits.{shr-split}
-use Rattle.keys.proofs.Making.{prefix-containing}
+use Rattle.keys.proofs.Making.{prefix-containing, only-containing}
 use Rattle.keys.proofs.prefix.Prefix.clear_after.Needs as need
 
 -- what stays of a number without its last k bits
@@ -21,4 +21,5 @@ pub returns : need.returns
 returns c =
     let k = 32 - c .args .bits in
     let n = c .args .address in
-    prefix-containing n _ (ap (λ m. n - m) (c .low-bits .ensures) ∙ cleared n k)
+    let e : n - c .low-bits .result ≡ n / 2 ^ k * 2 ^ k = ap (λ m. n - m) (c .low-bits .ensures) ∙ cleared n k in
+    record { value = prefix-containing n _ e; law = only-containing n _ e }

@@ -1,5 +1,5 @@
 use Prim.Native.Nat.{_-_, _%_, _^_, _<_}
-use mathlib.Core.Path.{_≡_, ap, _∙_}
+use mathlib.Core.Path.{ap, _∙_}
 use native.Mathlib.Omega.{arith}
 use Rattle.std.proofs.shelf.Bits.{one-shl, and-mask}
 use Rattle.keys.proofs.prefix.methods.low_bits.Needs as need

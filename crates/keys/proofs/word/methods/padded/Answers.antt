@@ -1,8 +1,7 @@
 use Prim.Native.Nat.{_-_}
 use mathlib.Core.Path.{_≡_, ap, _∙_}
-use mathlib.Core.List.{List, _++_}
 use native.Mathlib.Omega.{arith}
-use lib.ListN.{length, set, getD, take, replicate}
+use lib.ListN.{length, set, getD, take}
 use Rattle.std.proofs.shelf.Lists.{take-all}
 use Rattle.keys.proofs.Lexical.{fill-more}
 use Rattle.keys.proofs.word.methods.padded.Needs as need
