@@ -1,4 +1,4 @@
--- Text added piece by piece.
+-- Text added piece by piece: pieces one after another, and the bytes of a flight word as characters.
 use Prim.Native.Nat.{ℕ, _+_, _<_}
 use mathlib.Core.Path.{_≡_, sym, _∙_, ap}
 use mathlib.Core.Bool.{true}

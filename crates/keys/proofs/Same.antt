@@ -1,4 +1,4 @@
--- Keys with equal fields are equal.
+-- Keys with equal fields are equal. Idea: a ghost field is a fact with at most one proof.
 use Prim.Native.Nat.{ℕ, _≤_, _-_}
 use mathlib.Core.Path.{_≡_, sym, ap, _∙_}
 use mathlib.Core.HLevel.{isProp→PathP}

@@ -1,4 +1,5 @@
--- Reading what was written.
+-- What was written reads back. Idea: each field's reader, right after what is before the field, finds the field that was
+-- written there; so field by field the record comes back.
 use Prim.Native.Nat.{ℕ, _+_, _/_, _%_}
 use mathlib.Core.Path.{_≡_, refl, sym, _∙_, ap}
 use mathlib.Core.Bool.{Bool, true, _&&_}

@@ -1,4 +1,5 @@
--- The map byte and its bits; four bytes and their number.
+-- The map byte and its bits; four bytes and their number. Idea: each field adds its weight once or not at all, so the map
+-- is a sum that arithmetic takes apart.
 use Prim.Native.Nat.{ℕ, _+_, _*_, _/_, _%_, _≤_, _<_}
 use mathlib.Core.Path.{_≡_, refl, sym, _∙_, ap}
 use mathlib.Core.List.{[], _∷_}

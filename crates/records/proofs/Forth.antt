@@ -1,4 +1,5 @@
--- Writing what was read.
+-- What was read writes back. Idea: a field's reader that answers a field took just the bytes that write it; so field by
+-- field the bytes come back, and the map is the one of the fields.
 use Prim.Native.Nat.{ℕ, _+_, _≤_, _<_}
 use mathlib.Core.Path.{_≡_, refl, sym, _∙_, ap, subst}
 use mathlib.Core.Bool.{Bool, true, false, cond, _&&_}

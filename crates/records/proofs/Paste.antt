@@ -1,4 +1,4 @@
--- Bytes written one after another.
+-- Bytes written one after another. Idea: what is pasted right after a paste is one paste of both.
 use Prim.Native.Nat.{ℕ, _+_, _≤_, _<_}
 use mathlib.Core.Path.{_≡_, sym, _∙_, ap}
 use mathlib.Core.List.{List, [], _∷_, _++_, append-assoc}
@@ -50,7 +50,7 @@ onward out mid last at then xs ys p q e l = q ∙ ap (λ o. pasted o then ys) p 
 pub unmoved : (out xs : List ℕ) (at : ℕ) → xs ≡ [] → out ≡ pasted out at xs
 unmoved out xs at e = pasted-nil out at ∙ ap (pasted out at) (sym e)
 
--- the output so far: `front` present at its start, and `then` is the place after it
+-- the output so far: `front` stands at its start, and `then` is the place after it
 abbrev pub Front : List ℕ → List ℕ → List ℕ → ℕ → Type 0
 Front out front mid then = (mid ≡ pasted out 0 front) × (then ≡ length front)
 

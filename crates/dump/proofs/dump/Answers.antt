@@ -1,3 +1,4 @@
+-- The text is what `push_log` adds to an empty one; the laws hold of any bytes.
 use native.Mathlib.Omega.{arith}
 use mathlib.Core.Path.{ap, sym, _∙_}
 use mathlib.Core.List.{_++_}

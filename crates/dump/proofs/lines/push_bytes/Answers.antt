@@ -1,3 +1,4 @@
+-- Each byte of a flight word is below 128, so the character that is written is that byte.
 use mathlib.Core.Path.{sym, ap, _∙_}
 use mathlib.Core.List.{_++_}
 use Rattle.std.specs.Of.String.{string-bytes}

@@ -1,3 +1,4 @@
+-- So far the first bytes of the word are added.
 use mathlib.Core.Path.{_≡_}
 use mathlib.Core.List.{_++_}
 use lib.ListN.{take}

@@ -1,3 +1,4 @@
+-- Three pieces, one after another.
 use mathlib.Core.Path.{sym, ap, _∙_}
 use mathlib.Core.List.{_++_}
 use Rattle.std.specs.Of.String.{string-bytes}

@@ -1,3 +1,4 @@
+-- Each turn is a step of `Walking`, at what the log holds from `at` on.
 use native.Mathlib.Omega.{arith}
 use lib.ListN.{length}
 use Rattle.std.specs.Of.String.{string-bytes}

@@ -1,3 +1,4 @@
+-- So far the text of the records before `at` is added; what is left of the log shrinks.
 use Prim.Native.Nat.{_-_}
 use lib.ListN.{length}
 use Rattle.std.specs.Of.String.{string-bytes}

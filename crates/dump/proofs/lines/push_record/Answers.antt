@@ -1,3 +1,4 @@
+-- Seven pieces, one after another.
 use mathlib.Core.Path.{ap, _∙_}
 use mathlib.Core.List.{_++_}
 use lib.Chars.{codes}

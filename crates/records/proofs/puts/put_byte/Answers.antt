@@ -1,3 +1,4 @@
+-- A missing field leaves the output.
 use native.Mathlib.Omega.{arith}
 use mathlib.Core.Path.{_≡_, ap}
 use mathlib.Core.List.{[]}

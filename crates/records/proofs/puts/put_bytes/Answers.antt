@@ -1,3 +1,4 @@
+-- One more byte is pasted right after those before it.
 use native.Mathlib.Omega.{arith}
 use mathlib.Core.Path.{ap, _∙_, sym}
 use Rattle.std.proofs.shelf.Lists.{take-more, take-all, length-take-le}

@@ -1,3 +1,4 @@
+-- So far the first bytes are pasted.
 use Prim.Native.Nat.{_+_}
 use mathlib.Core.Path.{_≡_}
 use lib.ListN.{take}

@@ -1,3 +1,4 @@
+-- Four bytes pasted one after another.
 use native.Mathlib.Omega.{arith}
 use Prim.Native.Nat.{_+_, _≤_}
 use mathlib.Core.Path.{_≡_, ap, _∙_, sym}

@@ -1,3 +1,4 @@
+-- The length byte, and the word pasted right after it.
 use native.Mathlib.Omega.{arith}
 use mathlib.Core.Path.{_≡_, ap, _∙_, sym}
 use mathlib.Core.List.{[]}

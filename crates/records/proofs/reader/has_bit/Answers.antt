@@ -1,3 +1,4 @@
+-- The lowest bit after a shift is the bit at that place.
 use mathlib.Core.Path.{ap}
 use Prim.Native.Nat.{_/_, _^_}
 use lib.Dec.{eqb}

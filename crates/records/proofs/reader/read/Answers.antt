@@ -1,3 +1,4 @@
+-- The laws of `Rounds` at the answer.
 use native.Mathlib.Omega.{arith}
 use Rattle.records.proofs.Rounds.{read-laws}
 use Rattle.records.proofs.reader.read.Needs as need

@@ -1,3 +1,4 @@
+-- The laws of `Rounds` at the answer.
 use lib.ListN.{length}
 use Rattle.records.specs.Values.{valueOf}
 use Rattle.records.proofs.Rounds.{write-laws}

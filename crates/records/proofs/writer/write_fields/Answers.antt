@@ -1,3 +1,4 @@
+-- The map and each field pasted right after those before it, from the start.
 use native.Mathlib.Omega.{arith}
 use Prim.Native.Nat.{_≤_}
 use mathlib.Core.Path.{ap, _∙_}

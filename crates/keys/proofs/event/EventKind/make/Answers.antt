@@ -1,3 +1,4 @@
+-- The value made is the event kind of its number.
 use mathlib.Core.Path.{refl}
 use Rattle.keys.proofs.Making.{makes-event}
 use Rattle.keys.proofs.event.EventKind.make.Needs as need

@@ -1,3 +1,4 @@
+-- What `cmp` answers of the numbers, told of the event kinds.
 use borrow.Author.Tests.{lt-ltb}
 use Rattle.keys.proofs.Ranks.{ranked-map}
 use Rattle.keys.proofs.Same.{same-event}

@@ -1,3 +1,4 @@
+-- A mask of ones keeps the remainder by a power of two.
 use Prim.Native.Nat.{_-_, _%_, _^_, _<_}
 use mathlib.Core.Path.{ap, _∙_}
 use native.Mathlib.Omega.{arith}

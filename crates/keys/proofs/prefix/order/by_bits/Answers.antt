@@ -1,3 +1,4 @@
+-- What `cmp` answers of the lengths, told of prefixes with one address.
 use borrow.Author.Tests.{lt-ltb}
 use Rattle.keys.proofs.Ranks.{ranked-map}
 use Rattle.keys.proofs.Same.{same-prefix}

@@ -1,3 +1,4 @@
+-- The stored bytes are the word and zeros, so the ghost fields hold, and the value is the flight word of its bytes.
 use native.Mathlib.Omega.{arith}
 use mathlib.Core.Path.{ap, _∙_}
 use lib.ListN.{length, take, drop}

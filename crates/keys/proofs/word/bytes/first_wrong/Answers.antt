@@ -1,3 +1,4 @@
+-- Only one place is the first wrong one, and that is `firstWrong`.
 use Rattle.keys.specs.Words.{FirstWrong}
 use Rattle.keys.proofs.Lexical.{first-only}
 use Rattle.keys.proofs.word.bytes.first_wrong.Needs as need

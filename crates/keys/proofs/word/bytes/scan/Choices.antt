@@ -1,3 +1,4 @@
+-- So far no byte is wrong.
 use Prim.Native.Nat.{ℕ, _<_}
 use mathlib.Core.Path.{_≡_}
 use mathlib.Core.Bool.{true}

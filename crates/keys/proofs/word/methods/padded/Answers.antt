@@ -1,3 +1,4 @@
+-- One more byte of the word is set before the zeros.
 use Prim.Native.Nat.{_-_}
 use mathlib.Core.Path.{_≡_, ap, _∙_}
 use native.Mathlib.Omega.{arith}

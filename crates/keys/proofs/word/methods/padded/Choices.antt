@@ -1,3 +1,4 @@
+-- So far the first bytes of the word stand before zeros.
 use Prim.Native.Nat.{_-_}
 use mathlib.Core.Path.{_≡_}
 use mathlib.Core.List.{_++_}

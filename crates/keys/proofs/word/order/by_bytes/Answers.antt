@@ -1,3 +1,4 @@
+-- What `cmp` answers of the bytes, told of the flight words.
 use Rattle.keys.proofs.Lexical.{word-compares}
 use Rattle.keys.proofs.word.order.by_bytes.Needs as need
 

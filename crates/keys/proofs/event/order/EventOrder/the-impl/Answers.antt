@@ -1,3 +1,4 @@
+-- The order of the numbers, which tell event kinds apart.
 use lib.Dec.{ltb}
 use Rattle.keys.proofs.Totals.{number-total, total-by}
 use Rattle.keys.proofs.Same.{same-event}

@@ -1,3 +1,4 @@
+-- The order of address and length, which tell prefixes apart.
 use Prim.Native.Nat.{ℕ}
 use mathlib.Core.Path.{ap}
 use lib.Dec.{ltb}

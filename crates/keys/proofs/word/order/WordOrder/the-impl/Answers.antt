@@ -1,3 +1,4 @@
+-- The order of the bytes, which tell flight words apart.
 use lib.ListN.{take}
 use Rattle.keys.specs.Words.{lessWord}
 use Rattle.keys.proofs.Totals.{word-total, total-by}
