@@ -1,4 +1,4 @@
-//! The text of whole, torn and wild logs.
+//! The text of whole, torn, wild and long logs.
 use dump::dump;
 use std::test::*;
 
@@ -29,4 +29,12 @@ fn wild(rt: LibcRuntime) -> Result<(), Fail> {
     text_is(&rt, b"\x02\x07\x00", "0 kind 7\nfault 1 3 1 2\n")?;
     text_is(&rt, b"\x02\x40", "fault 1 5 0 1\n")?;
     text_is(&rt, b"\x02\x07\x10\x03A\x7FB", "0 kind 7\nfault 1 5 1 5\n")
+}
+
+#[test]
+fn long(rt: LibcRuntime) -> Result<(), Fail> {
+    let most = vec![in rt.alloc(); 0u8; 65_536]?;
+    text_is(&rt, most.as_slice(), "fault 1 3 0 0\n")?;
+    let more = vec![in rt.alloc(); 0u8; 65_537]?;
+    text_is(&rt, more.as_slice(), "long\n")
 }

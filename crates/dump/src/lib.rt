@@ -1,4 +1,5 @@
-//! A log as text: one line for each record, then how many there are, or where the log is torn. Rests on records.
+//! A log as text: one line for each record, then how many there are, or where the log is torn. Rests on
+//! records, and on keys for the numbers of refusals.
 mod lines;
 
 ghost use mathlib.Core.Path.{_≡_};
