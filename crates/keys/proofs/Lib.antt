@@ -3,3 +3,4 @@ pub mod Ranks
 pub mod Same
 pub mod Lexical
 pub mod Making
+pub mod KindOrders

@@ -4,3 +4,4 @@ pub mod Prefixes
 pub mod Words
 pub mod Helds
 pub mod Values
+pub mod KindOrders

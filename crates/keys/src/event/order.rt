@@ -3,6 +3,7 @@ ghost use mathlib.Core.Path.{_≡_};
 ghost use mathlib.Core.Bool.{true};
 ghost use lib.Dec.{ltb};
 ghost use Rattle.std.specs.Orderings.{Ranked};
+ghost use Rattle.keys.specs.KindOrders.{lessEvent};
 use crate::event::EventKind;
 use crate::kind::Kind;
 use std::cmp::Ordering;
@@ -15,7 +16,7 @@ fn by_number(a: &EventKind, b: &EventKind) -> Ordering
 }
 
 pub impl Kind for EventKind as EventOrder {
-    ghost less = { λ a b. ltb (a .number) (b .number) };
+    ghost less = { lessEvent };
 
     fn compare(&self, other: &EventKind) -> Ordering {
         by_number(self, other)

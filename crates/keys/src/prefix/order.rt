@@ -3,7 +3,7 @@ ghost use mathlib.Core.Path.{_≡_};
 ghost use mathlib.Core.Bool.{true};
 ghost use lib.Dec.{ltb};
 ghost use Rattle.std.specs.Orderings.{Ranked};
-ghost use Rattle.keys.specs.Orders.{byParts};
+ghost use Rattle.keys.specs.KindOrders.{lessPrefix};
 use crate::kind::Kind;
 use crate::prefix::Prefix;
 use std::cmp::Ordering;
@@ -17,7 +17,7 @@ fn by_bits(a: &Prefix, b: &Prefix) -> Ordering
 }
 
 pub impl Kind for Prefix as PrefixOrder {
-    ghost less = { λ a b. byParts ltb ltb (a .address) (a .bits) (b .address) (b .bits) };
+    ghost less = { lessPrefix };
 
     fn compare(&self, other: &Prefix) -> Ordering {
         match self.address.cmp(&other.address) {

@@ -3,6 +3,7 @@ ghost use mathlib.Core.Path.{_≡_};
 ghost use mathlib.Core.Bool.{true};
 ghost use Rattle.std.specs.Orderings.{Ranked};
 ghost use Rattle.keys.specs.Words.{lessWord};
+ghost use Rattle.keys.specs.KindOrders.{lessFlight};
 ghost use Rattle.keys.specs.Values.{bytesOf};
 use crate::kind::Kind;
 use crate::word::FlightWord;
@@ -16,7 +17,7 @@ fn by_bytes(a: &FlightWord, b: &FlightWord) -> Ordering
 }
 
 pub impl Kind for FlightWord as WordOrder {
-    ghost less = { λ a b. lessWord (bytesOf a) (bytesOf b) };
+    ghost less = { lessFlight };
 
     fn compare(&self, other: &FlightWord) -> Ordering {
         by_bytes(self, other)

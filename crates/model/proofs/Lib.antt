@@ -1,0 +1,16 @@
+pub mod Sums
+pub mod Moves
+pub mod Missing
+pub mod Near
+pub mod Runs
+pub mod Pairs
+pub mod PlanLaws
+pub mod SketchLaws
+pub mod TallyLaws
+pub mod Rows
+pub mod Words
+pub mod Valued
+pub mod ListingWords
+pub mod Ways
+pub mod Handing
+pub mod WorkedCases

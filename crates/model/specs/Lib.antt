@@ -1,0 +1,11 @@
+pub mod Contents
+pub mod Plans
+pub mod Neighbours
+pub mod Laws
+pub mod Sketches
+pub mod Taking
+pub mod Tallies
+pub mod Pages
+pub mod Listing
+pub mod Handing
+pub mod Worked
