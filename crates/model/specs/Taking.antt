@@ -1,4 +1,4 @@
--- The sketch's rule of taking in words: what becomes of each key, and that nothing else is left open.
+-- The sketch's rule of taking in words: what becomes of each key; and that the words fit no other content.
 use Prim.Native.Nat.{_+_}
 use mathlib.Core.Bool.{Bool, true, false}
 use mathlib.Core.Logic.{_⊎_}
