@@ -26,7 +26,7 @@ afterFrom plan C (x ∷ es) = afterFrom plan (plan .rule C x) es
 abbrev pub after : {K : Type 0} → Plan K → List K → Content K
 after plan es = afterFrom plan (plan .fresh) es
 
--- no summary takes more entries than this
+-- no summary takes more entries than this, the largest number of 32 bits
 abbrev pub mostEntries : ℕ
 mostEntries = 4294967295
 
