@@ -1,37 +1,34 @@
 -- What `cmp` answers of two flight words, by their order; zeros behind a word; its first wrong byte.
-use Rattle.std.proofs.Common.{◌≡◌, ℕ, zero, suc, ◌+◌, ◌-◌, ◌<◌, ◌≤◌, Bool, true, false, cond, List, [], ◌∷◌, ◌++◌, length, get_or, take, set, replicate, Ordering, Less, Equal, Greater, sym, refl, ap, ◌∙◌, subst, true≢false, arith}
+use Rattle.std.proofs.Common.{◌≡◌, ℕ, zero, suc, ◌+◌, ◌-◌, ◌<◌, ◌≤◌, Bool, true, false, cond, List, [], ◌∷◌, ◌++◌, length, get_or, take, set, replicate, Ordering, Less, Equal, Greater, sym, refl, ap, ◌∙◌, true≢false, arith}
 use Rattle.std.proofs.lemmas.List.{length-take-le, set_at, take_more, append_assoc}
 use Rattle.keys.specs.declared.word.FlightWord.{FlightWord}
 use Rattle.keys.specs.Same.{same_word}
 use Rattle.std.proofs.lemmas.Bool.Decides.{nat_tests}
 use Rattle.std.proofs.lemmas.Cmp.{same_from_slice_cmp}
-use Rattle.std.specs.Cmp.Lexicographic.{Lex}
-use Rattle.std.specs.Ordering.{MatchOrdering, is_lt, is_gt}
+use Rattle.std.specs.Cmp.Lexicographic.{slice_cmp}
+use Rattle.std.specs.Ordering.{MatchOrdering, is_lt, is_gt, nat_cmp}
 use Rattle.keys.specs.Words.{less_word, word_byte, first_wrong, FirstWrong}
 use Rattle.keys.specs.Values.{bytes_of}
 use Rattle.keys.specs.Totals.{word_total}
 use Rattle.keys.proofs.Ranks.{ranked_map}
 
-abbrev By : ℕ → ℕ → Ordering → Type 0
-By a b k = MatchOrdering k (a < b) (a ≡ b) (b < a)
+before : (xs ys : List ℕ) (o : Ordering) → o ≡ slice_cmp nat_cmp xs ys → is_lt o ≡ less_word xs ys
+before = same_from_slice_cmp nat_cmp is_lt less_word refl (λ _ _. refl) (λ _ _. refl) (λ x y xs ys o h. grind (arith, nat_tests))
 
-before : (xs ys : List ℕ) (o : Ordering) → Lex By xs ys o → is_lt o ≡ less_word xs ys
-before = same_from_slice_cmp By is_lt less_word refl (λ _ _. refl) (λ _ _. refl) (λ x y xs ys o h. grind (arith, nat_tests))
+after : (xs ys : List ℕ) (o : Ordering) → o ≡ slice_cmp nat_cmp xs ys → is_gt o ≡ less_word ys xs
+after = same_from_slice_cmp nat_cmp is_gt (λ xs ys. less_word ys xs) refl (λ _ _. refl) (λ _ _. refl) (λ x y xs ys o h. grind (arith, nat_tests))
 
-after : (xs ys : List ℕ) (o : Ordering) → Lex By xs ys o → is_gt o ≡ less_word ys xs
-after = same_from_slice_cmp By is_gt (λ xs ys. less_word ys xs) refl (λ _ _. refl) (λ _ _. refl) (λ x y xs ys o h. grind (arith, nat_tests))
-
-pub word_ranked : (xs ys : List ℕ) (o : Ordering) → Lex By xs ys o → MatchOrdering o (less_word xs ys ≡ true) (xs ≡ ys) (less_word ys xs ≡ true)
+pub word_ranked : (xs ys : List ℕ) (o : Ordering) → o ≡ slice_cmp nat_cmp xs ys → MatchOrdering o (less_word xs ys ≡ true) (xs ≡ ys) (less_word ys xs ≡ true)
 word_ranked xs ys Less h = sym (before xs ys Less h)
 word_ranked xs ys Equal h = word_total.connected xs ys (sym (before xs ys Equal h)) (sym (after xs ys Equal h))
 word_ranked xs ys Greater h = sym (after xs ys Greater h)
 
 -- the same, of two values of the kind whose bytes were compared
-pub word_compares : (x y : FlightWord) (u v : List ℕ) (o : Ordering) → u ≡ bytes_of x → v ≡ bytes_of y → Lex By u v o
+pub word_compares : (x y : FlightWord) (u v : List ℕ) (o : Ordering) → u ≡ bytes_of x → v ≡ bytes_of y → o ≡ slice_cmp nat_cmp u v
     → MatchOrdering o (less_word (bytes_of x) (bytes_of y) ≡ true) (x ≡ y) (less_word (bytes_of y) (bytes_of x) ≡ true)
 word_compares x y u v o e f h =
     ranked_map o (λ l. l) (same_word x y) (λ l. l)
-    (word_ranked (bytes_of x) (bytes_of y) o (subst (λ (b : List ℕ). Lex By (bytes_of x) b o) f (subst (λ (a : List ℕ). Lex By a v o) e h)))
+    (word_ranked (bytes_of x) (bytes_of y) o (h ∙ ap (λ (a : List ℕ). slice_cmp nat_cmp a v) e ∙ ap (λ (b : List ℕ). slice_cmp nat_cmp (bytes_of x) b) f))
 
 -- one more byte of a word before the zeros
 pub fill_more : (w : List ℕ) (i : ℕ) → i < length w → length w ≤ 8 → set (take i w ++ replicate (8 - i) 0) i (get_or w i 0) ≡ take (i + 1) w ++ replicate (8 - (i + 1)) 0

@@ -9,16 +9,16 @@ use Rattle.keys.proofs.prefix.Prefix.clear_after.Goals as goal
 cleared : (n k : ℕ) → n - n % 2 ^ k ≡ n / 2 ^ k * 2 ^ k
 cleared n k = omega (arith, shr_split n k)
 
-pub invariant-of-result : goal.invariant-of-result
-invariant-of-result c =
+pub invariant_of-result : goal.invariant_of-result
+invariant_of-result c =
     let k = 32 - c.args.bits in
     let n = c.args.address in
-    let e : n - c.low-bits.result ≡ n / 2 ^ k * 2 ^ k = ap (λ m. n - m) c.low-bits.ensures ∙ cleared n k in
-    (omega arith, (ap (λ m. m % 2 ^ k) e ∙ first_clear c.args.bits n, tt))
+    let e : n - c.low_bits.result ≡ n / 2 ^ k * 2 ^ k = ap (λ m. n - m) c.low_bits.ensures ∙ cleared n k in
+    record { whole = omega arith; clear = ap (λ m. m % 2 ^ k) e ∙ first_clear c.args.bits n }
 
 pub returns : goal.returns
 returns c =
     let k = 32 - c.args.bits in
     let n = c.args.address in
-    let e : n - c.low-bits.result ≡ n / 2 ^ k * 2 ^ k = ap (λ m. n - m) c.low-bits.ensures ∙ cleared n k in
+    let e : n - c.low_bits.result ≡ n / 2 ^ k * 2 ^ k = ap (λ m. n - m) c.low_bits.ensures ∙ cleared n k in
     record { value = prefix_containing n _ e; law = only_containing n _ e }

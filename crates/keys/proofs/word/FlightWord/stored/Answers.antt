@@ -8,23 +8,21 @@ use Rattle.keys.proofs.word.FlightWord.stored.Goals as goal
 pub padded-requires : goal.padded-requires
 padded-requires c = (word_parts c.args.word.now c.requires).fits
 
-pub overflow-cast-result : goal.overflow-cast-result
-overflow-cast-result c = let p = word_parts c.args.word.now c.requires in omega arith
+pub overflow_cast-result : goal.overflow_cast-result
+overflow_cast-result c = let p = word_parts c.args.word.now c.requires in omega arith
 
-pub invariant-of-result : goal.invariant-of-result
-invariant-of-result c =
+pub invariant_of-result : goal.invariant_of-result
+invariant_of-result c =
     let w = c.args.word.now in
     let e = c.padded.ensures in
-    let p = word_parts w c.requires in (
-      p.some,
-      (
-        p.fits,
-        (
-          ap length e ∙ zeroed_eight w p.fits,
-          (ap (λ bs. first_wrong (take (length w) bs)) e ∙ ap first_wrong (zeroed_word w) ∙ p.right, (ap (drop (length w)) e ∙ zeroed_rest w, tt)),
-        ),
-      ),
-    )
+    let p = word_parts w c.requires in
+    record {
+      some = p.some;
+      fits = p.fits;
+      eight = ap length e ∙ zeroed_eight w p.fits;
+      right = ap (λ bs. first_wrong (take (length w) bs)) e ∙ ap first_wrong (zeroed_word w) ∙ p.right;
+      padded = ap (drop (length w)) e ∙ zeroed_rest w;
+    }
 
 pub returns : goal.returns
 returns c =

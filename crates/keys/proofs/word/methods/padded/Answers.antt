@@ -1,5 +1,5 @@
 -- One more byte of the word is set before the zeros.
-use Rattle.std.proofs.Common.{◌≡◌, ◌-◌, length, get_or, take, set, ap, ◌∙◌, arith}
+use Rattle.std.proofs.Common.{◌≡◌, length, get_or, take, set, ap, ◌∙◌, arith}
 use Rattle.std.proofs.lemmas.List.{take_all}
 use Rattle.keys.proofs.Lexical.{fill_more}
 use Rattle.keys.proofs.word.methods.padded.Goals as goal
