@@ -1,5 +1,7 @@
 //! The record of a console's log: its reader and its writer. specs/ says what they answer, and what a log holds that is
 //! read record by record. Rests on keys for the refusals and for which bytes make a flight word.
+#![tactic(auto)]
+
 pub mod fault;
 mod fields;
 mod puts;

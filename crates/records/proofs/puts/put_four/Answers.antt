@@ -5,9 +5,9 @@ use Rattle.records.specs.Pasting.{pasted}
 use Rattle.records.proofs.Paste.{unmoved, onward}
 use Rattle.records.proofs.puts.put_four.Goals as goal
 
-pub returns-in-default : goal.returns-in-default
-returns-in-default c =
-    let e : encode_four c.args.field ≡ [] = ap encode_four c.in-default.is in
+pub returns-in_default : goal.returns-in_default
+returns-in_default c =
+    let e : encode_four c.args.field ≡ [] = ap encode_four c.in_default.is in
     record { place = omega (arith, ap length e); written = unmoved _ _ _ e }
 
 pub returns : goal.returns

@@ -6,6 +6,6 @@ use Rattle.records.proofs.reader.read.Goals as goal
 pub returns : goal.returns
 returns c =
     record {
-      answer = c.read-checked.ensures;
-      laws = read_laws c.args.input.now (λ i. omega (arith, c.type-inv.input i)) _ c.read-checked.ensures;
+      answer = c.read_checked.ensures;
+      laws = read_laws c.args.input.now (λ i. omega (arith, c.type_inv.input i)) _ c.read_checked.ensures;
     }

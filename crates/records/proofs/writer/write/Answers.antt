@@ -7,7 +7,7 @@ use Rattle.records.proofs.writer.write.Goals as goal
 pub returns : goal.returns
 returns c =
     record {
-      answer = c.write-checked.ensures.answer;
-      written = c.write-checked.ensures.written;
-      laws = write_laws (value_of c.args.given.now) (length c.args.out.now) _ c.write-checked.ensures.answer;
+      answer = c.write_checked.ensures.answer;
+      written = c.write_checked.ensures.written;
+      laws = write_laws (value_of c.args.given.now) (length c.args.out.now) _ c.write_checked.ensures.answer;
     }
