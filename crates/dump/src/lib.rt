@@ -1,5 +1,7 @@
 //! A log as text: one line for each record, then how many there are, or where the log is torn. Rests on
 //! records, and on keys for the numbers of refusals.
+#![tactic(auto)]
+
 mod lines;
 
 ghost use Rattle.std.specs.Prelude.{◌≡◌, IfOk, string_bytes};
@@ -21,8 +23,6 @@ pub fn dump(heap: Global, log: &[u8]) -> Result<String, AllocError>
         return String::from_str(heap, "long\n");
     }
     let mut text = String::new(heap);
-    match push_log(&mut text, log) {
-        Ok(()) => Ok(text),
-        Err(_) => Err(AllocError),
-    }
+    push_log(&mut text, log)?;
+    Ok(text)
 }

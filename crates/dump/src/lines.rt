@@ -10,7 +10,7 @@ ghost use Rattle.dump.specs.Lines.{number_part, source_part, flight_part, line_o
 use records::fault::ReadFault;
 use records::reader::read;
 use records::record::Record;
-use std::fmt;
+use std::alloc::AllocError;
 
 /// A number as it is.
 fn widened(field: Option<u8>) -> Option<u32>
@@ -23,7 +23,7 @@ fn widened(field: Option<u8>) -> Option<u32>
 }
 
 /// A field that is a number, with its name.
-fn push_number(text: &mut String, name: &str, field: Option<u32>) -> fmt::Result
+fn push_number(text: &mut String, name: &str, field: Option<u32>) -> Result<(), AllocError>
     ensures { OnOk result (string_bytes text.new ≡ string_bytes text.old ++ number_part name.now field) }
 {
     match field {
@@ -33,7 +33,7 @@ fn push_number(text: &mut String, name: &str, field: Option<u32>) -> fmt::Result
 }
 
 /// The source address as its four bytes.
-fn push_source(text: &mut String, field: Option<u32>) -> fmt::Result
+fn push_source(text: &mut String, field: Option<u32>) -> Result<(), AllocError>
     ensures { OnOk result (string_bytes text.new ≡ string_bytes text.old ++ source_part field) }
 {
     match field {
@@ -49,7 +49,7 @@ fn push_source(text: &mut String, field: Option<u32>) -> fmt::Result
 }
 
 /// The bytes of a flight word, which are all characters.
-fn push_bytes(text: &mut String, word: &[u8]) -> fmt::Result
+fn push_bytes(text: &mut String, word: &[u8]) -> Result<(), AllocError>
     requires { is_word word.now ≡ true }
     ensures { OnOk result (string_bytes text.new ≡ string_bytes text.old ++ word.now) }
 {
@@ -61,7 +61,7 @@ fn push_bytes(text: &mut String, word: &[u8]) -> fmt::Result
 }
 
 /// The flight word in quotes.
-fn push_flight(text: &mut String, field: Option<&[u8]>) -> fmt::Result
+fn push_flight(text: &mut String, field: Option<&[u8]>) -> Result<(), AllocError>
     requires { word_fits (bytes_of field) ≡ true }
     ensures { OnOk result (string_bytes text.new ≡ string_bytes text.old ++ flight_part (bytes_of field.entry)) }
 {
@@ -75,7 +75,7 @@ fn push_flight(text: &mut String, field: Option<&[u8]>) -> fmt::Result
 }
 
 /// The line of a record.
-fn push_record(text: &mut String, index: usize, given: &Record<'_>) -> fmt::Result
+fn push_record(text: &mut String, index: usize, given: &Record<'_>) -> Result<(), AllocError>
     requires { word_fits (bytes_of given.now.flight) ≡ true }
     ensures { OnOk result (string_bytes text.new ≡ string_bytes text.old ++ line_of index (value_of given.now)) }
 {
@@ -90,7 +90,12 @@ fn push_record(text: &mut String, index: usize, given: &Record<'_>) -> fmt::Resu
 }
 
 /// The last line of a torn log: the fault in the record that begins at `at`.
-fn push_fault(text: &mut String, fault: ReadFault, index: usize, at: usize) -> fmt::Result
+fn push_fault(
+    text: &mut String,
+    fault: ReadFault,
+    index: usize,
+    at: usize,
+) -> Result<(), AllocError>
     requires { at + place_of fault < 2 ^ 64 }
     ensures { OnOk result (string_bytes text.new ≡ string_bytes text.old ++ text_from index (stopped fault index at)) }
 {
@@ -100,14 +105,14 @@ fn push_fault(text: &mut String, fault: ReadFault, index: usize, at: usize) -> f
 }
 
 /// The last line of a whole log.
-fn push_count(text: &mut String, count: usize) -> fmt::Result
+fn push_count(text: &mut String, count: usize) -> Result<(), AllocError>
     ensures { OnOk result (string_bytes text.new ≡ string_bytes text.old ++ text_from count ended) }
 {
     write!(text, "records {count}\n")
 }
 
 /// All lines of a log.
-pub(crate) fn push_log(text: &mut String, log: &[u8]) -> fmt::Result
+pub(crate) fn push_log(text: &mut String, log: &[u8]) -> Result<(), AllocError>
     ensures { OnOk result (string_bytes text.new ≡ string_bytes text.old ++ text_of (log_of log.now)) }
 {
     let mut at = 0;

@@ -10,7 +10,7 @@ loop-b-init c = sym (append-nil (string_bytes c.args.text.now))
 pub loop-b-preserved : goal.loop-b-preserved
 loop-b-preserved c =
     byte_more (string_bytes c.args.text.now) (string_bytes c.loop-b.text) (string_bytes c.write.new.self) c.args.word.now c.loop-b.b-index c.from-character.result
-    c.requires c.loop-b-test.true c.loop-b.invariant c.from-character.ensures c.in-ok-write.ensures.bytes
+    c.requires c.loop-b-test.true c.loop-b.invariant c.from-character.ensures c.in_ok-write.ensures.bytes
 
 pub returns : goal.returns
 returns c =

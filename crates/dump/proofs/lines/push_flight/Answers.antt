@@ -7,5 +7,5 @@ use Rattle.dump.proofs.lines.push_flight.Goals as goal
 
 pub returns : goal.returns
 returns c =
-    three (string_bytes c.args.text.now) _ _ _ _ _ _ c.in-ok-write.ensures.bytes c.in-ok-push-bytes.ensures c.in-ok-write-2.ensures.bytes
+    three (string_bytes c.args.text.now) _ _ _ _ _ _ c.in_ok-write.ensures.bytes c.in_ok-push_bytes.ensures c.in_ok-write-2.ensures.bytes
     ∙ ap (λ f. string_bytes c.args.text.now ++ flight_part (bytes_of f)) (sym c.in-Some.is)
