@@ -50,9 +50,9 @@ fn containing_prefixes(rt: HostRuntime) -> Result<(), Fail> {
 
 #[test]
 fn flight_words(rt: HostRuntime) -> Result<(), Fail> {
-    assert!(rt; FlightWord::make(b" ")?.bytes() == b" ");
-    assert!(rt; FlightWord::make(b"ABCDEFG_")?.bytes() == b"ABCDEFG_");
-    assert!(rt; FlightWord::make(b"A ")?.bytes() == b"A ");
+    assert!(rt; FlightWord::make(b" ")?.bytes() == b" ".as_slice());
+    assert!(rt; FlightWord::make(b"ABCDEFG_")?.bytes() == b"ABCDEFG_".as_slice());
+    assert!(rt; FlightWord::make(b"A ")?.bytes() == b"A ".as_slice());
     assert_eq!(rt; refused(FlightWord::make(b"")), 1);
     assert_eq!(rt; refused(FlightWord::make(b"ABCDEFGHI")), 1);
     assert_eq!(rt; refused(FlightWord::make(b"\x1F")), 1);

@@ -1,5 +1,7 @@
 //! Tests of keys, records and the text of a log on worked examples and edge values; `record_table` has the many cases
 //! of the reader and the writer. Rests on keys, records and dump.
+#![tactic(auto)]
+
 #[cfg(test)]
 mod kinds;
 #[cfg(test)]

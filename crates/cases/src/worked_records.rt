@@ -33,7 +33,7 @@ fn a_word_is_a_part_of_the_input(rt: HostRuntime) -> Result<(), Fail> {
         return Err(Fail::new("no word"));
     };
     assert_eq!(rt; n, 5);
-    assert!(rt; word == b"KLM");
+    assert!(rt; word == b"KLM".as_slice());
     Ok(())
 }
 

@@ -1,5 +1,5 @@
 -- The order of each kind that is made from numbers or bytes.
-use Rattle.std.specs.Prelude.{Bool, ltb, nat_lt}
+use Rattle.std.specs.Prelude.{Bool, nat_lt}
 use Rattle.keys.specs.declared.event.EventKind.{EventKind}
 use Rattle.keys.specs.declared.prefix.Prefix.{Prefix}
 use Rattle.keys.specs.declared.word.FlightWord.{FlightWord}
@@ -13,7 +13,7 @@ less_event a b = nat_lt a.number b.number
 
 -- prefixes by address as a number, then by length
 abbrev pub less_prefix : Prefix → Prefix → Bool
-less_prefix a b = by_parts ltb ltb a.address a.bits b.address b.bits
+less_prefix a b = by_parts nat_lt nat_lt a.address a.bits b.address b.bits
 
 -- flight words by their bytes
 abbrev pub less_flight : FlightWord → FlightWord → Bool

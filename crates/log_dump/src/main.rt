@@ -1,5 +1,7 @@
 //! Prints a console's log that is given on standard input: one line for each record, then how many there are; or, at
 //! the first fault, the records before it and the fault. Of an input above 65,536 bytes it prints only `long`.
+#![tactic(auto)]
+
 use dump::dump;
 use std::io::Read;
 

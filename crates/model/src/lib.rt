@@ -1,6 +1,8 @@
 //! What a summary is, before any code: content, plan, the four laws, neighbours, the rules of the sketch and the
 //! tally, the page rule, the listing rule and the handing over of draws. The functions do nothing; each has a theorem
 //! for its contract. Rests on keys.
+#![tactic(auto)]
+
 ghost use Rattle.model.specs.Handing.{HandingOver, RunsHandOver};
 ghost use Rattle.model.specs.Listing.{ListingRule};
 ghost use Rattle.model.specs.Sketches.{SketchLaws};

@@ -1,6 +1,8 @@
 //! Reads a table of inputs in hexadecimal, one to a line, and prints what the reader answers of each: `fault`, number
 //! and place; or the record's length and its bytes as the writer gives them back, then what the writer answers of an
 //! output one byte shorter.
+#![tactic(auto)]
+
 use records::reader::read;
 use records::record::Record;
 use records::writer::write;
