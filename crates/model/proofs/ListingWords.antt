@@ -1,7 +1,7 @@
 -- The list is what the words of the listing rule say, and the words leave nothing else.
 use Rattle.std.proofs.Common.{◌≡◌, Bool, true, false, cond, ◌⊎◌, List, [], ◌∷◌, length, ℤ, ◌≤ℤ◌, ◌<ℤ◌, filter, sym, refl, ap, ◌∙◌, inl, inr, arith}
 use lib.Signed.{le_z}
-use Rattle.std.specs.List.{AllByRecursion as All}
+use Rattle.std.specs.List.{AllByRecursion}
 use Rattle.std.proofs.lemmas.Int.{ints}
 use Rattle.keys.specs.Orders.{TotalOrder, same}
 use Rattle.keys.specs.Helds.{less_held}
@@ -16,7 +16,7 @@ use Rattle.model.proofs.Valued.{reaches_true, reaches_false, Rising-filter, Risi
 
 -- the real keys of a list
 module _ {K Y : Type 0} (less : K → K → Bool) where
-  all_reals : (x : K) (r : List (Held K × Y)) → All (λ (f : Held K × Y). less_held less (Real x) f.0 ≡ true) r → All (λ (f : K × Y). less x f.0 ≡ true) (reals r)
+  all_reals : (x : K) (r : List (Held K × Y)) → AllByRecursion (λ (f : Held K × Y). less_held less (Real x) f.0 ≡ true) r → AllByRecursion (λ (f : K × Y). less x f.0 ≡ true) (reals r)
   all_reals x [] a = tt
   all_reals x ((Real y, v) ∷ r) a = (a.0, all_reals x r a.1)
   all_reals x ((Dummy j, v) ∷ r) a = all_reals x r a.1

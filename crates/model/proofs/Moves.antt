@@ -1,6 +1,6 @@
 -- What raising, lowering and replacing do to the held keys, by sums; and that the sketch's rule does one of the three.
 use Rattle.std.proofs.Common.{◌≡◌, ℕ, ◌+◌, ◌-◌, ◌≤◌, Bool, true, false, cond, eqb, ◌⊎◌, [], ◌∷◌, map, sym, refl, ◌∙◌, subst, inl, inr, arith}
-use Rattle.std.specs.List.{AllByRecursion as All}
+use Rattle.std.specs.List.{AllByRecursion}
 use Rattle.std.proofs.lemmas.Bool.{both_ways, eqb-true, eqb-false, or_parts, or_cases, cond_both}
 use Rattle.std.proofs.lemmas.Bool.Decides.{nat_tests}
 use Rattle.std.proofs.ByRecursion.{All-map, All-weaker}
@@ -56,14 +56,14 @@ pub record LeftSums {X : Type 0} (less : X → X → Bool) (h t : Counts X) : Ty
   pub sums : (w : X → ℕ → ℕ) → sum_of w t + w gone 0 ≡ sum_of w h
 
 -- what holds of each key holds of those that stay
-all_leave : {X : Type 0} (P : X → Type 0) (h : Counts X) → All (λ (e : X × ℕ). P e.0) h → All (λ (e : X × ℕ). P e.0) (leave h)
+all_leave : {X : Type 0} (P : X → Type 0) (h : Counts X) → AllByRecursion (λ (e : X × ℕ). P e.0) h → AllByRecursion (λ (e : X × ℕ). P e.0) (leave h)
 all_leave P [] p = tt
-all_leave {X} P (e ∷ h) p = cond_both _ h (e ∷ leave h) (All (λ (e : X × ℕ). P e.0)) (λ _. p.1) (λ _. (p.0, all_leave P h p.1))
+all_leave {X} P (e ∷ h) p = cond_both _ h (e ∷ leave h) (AllByRecursion (λ (e : X × ℕ). P e.0)) (λ _. p.1) (λ _. (p.0, all_leave P h p.1))
 
 module _ {X : Type 0} (less : X → X → Bool) (order : TotalOrder less) where
-  all_insert : (P : X → Type 0) (e : X × ℕ) (h : Counts X) → P e.0 → All (λ (f : X × ℕ). P f.0) h → All (λ (f : X × ℕ). P f.0) (insert less e h)
+  all_insert : (P : X → Type 0) (e : X × ℕ) (h : Counts X) → P e.0 → AllByRecursion (λ (f : X × ℕ). P f.0) h → AllByRecursion (λ (f : X × ℕ). P f.0) (insert less e h)
   all_insert P e [] q p = (q, tt)
-  all_insert P e (f ∷ h) q p = cond_both _ (e ∷ f ∷ h) (f ∷ insert less e h) (All (λ (f : X × ℕ). P f.0)) (λ _. (q, p)) (λ _. (p.0, all_insert P e h q p.1))
+  all_insert P e (f ∷ h) q p = cond_both _ (e ∷ f ∷ h) (f ∷ insert less e h) (AllByRecursion (λ (f : X × ℕ). P f.0)) (λ _. (q, p)) (λ _. (p.0, all_insert P e h q p.1))
 
   pub Rising-map : (f : X → ℕ → ℕ) (h : Counts X) → Rising less h → Rising less (map (λ (e : X × ℕ). (e.0, f e.0 e.1)) h)
   Rising-map f [] p = tt
@@ -214,7 +214,7 @@ module _ {X : Type 0} (less : X → X → Bool) (order : TotalOrder less) where
           )
 
   -- lowering
-  all_above_zero : (h : Counts X) → some_zero h ≡ false → All (λ (e : X × ℕ). 1 ≤ e.1) h
+  all_above_zero : (h : Counts X) → some_zero h ≡ false → AllByRecursion (λ (e : X × ℕ). 1 ≤ e.1) h
   all_above_zero [] z = tt
   all_above_zero (e ∷ h) z =
       let q = or_parts (eqb e.1 0) (some_zero h) z in
@@ -223,7 +223,7 @@ module _ {X : Type 0} (less : X → X → Bool) (order : TotalOrder less) where
 
   -- a sum falls by a(k) at each key k where w falls by that
   sum-lowered : (w : X → ℕ → ℕ) (a : X → ℕ) → ((k : X) (n : ℕ) → 1 ≤ n → w k (n - 1) + a k ≡ w k n) →
-      (h : Counts X) → All (λ (e : X × ℕ). 1 ≤ e.1) h → sum_of w (lowered h) + sum_of (λ k _. a k) h ≡ sum_of w h
+      (h : Counts X) → AllByRecursion (λ (e : X × ℕ). 1 ≤ e.1) h → sum_of w (lowered h) + sum_of (λ k _. a k) h ≡ sum_of w h
   unfolding sum_of
   sum-lowered w a f [] p = omega arith
   sum-lowered w a f (e ∷ h) p = omega (arith, f e.0 e.1 p.0, sum-lowered w a f h p.1)

@@ -1,7 +1,7 @@
 -- Law 4, of any plan by which each entry raises, lowers or replaces. Idea: the stronger invariant of Near holds when
 -- one of two equal contents takes an entry, and lasts while both take the same entries.
 use Rattle.std.proofs.Common.{◌≡◌, ℕ, ◌+◌, ◌-◌, ◌≤◌, Bool, true, false, cond, not, ◌⊎◌, List, [], ◌∷◌, length, filter, sym, refl, ◌∙◌, inl, inr, arith}
-use Rattle.std.specs.List.{AllByRecursion as All}
+use Rattle.std.specs.List.{AllByRecursion}
 use Rattle.std.proofs.lemmas.Bool.{not-true}
 use Rattle.keys.specs.Orders.{TotalOrder}
 use Rattle.keys.specs.Helds.{less_held}
@@ -44,20 +44,20 @@ module _ {X : Type 0} (less : X → X → Bool) (order : TotalOrder less) where
       go false q r = omega (arith, r, unheld_absent less order g e.0 q)
 
   -- an entry's count is no more than its key's
-  entry_counted : (h : Counts X) (f : X → ℕ) → ((x : X) → counted less h x ≤ f x) → All (λ (e : X × ℕ). e.1 ≤ f e.0) h
+  entry_counted : (h : Counts X) (f : X → ℕ) → ((x : X) → counted less h x ≤ f x) → AllByRecursion (λ (e : X × ℕ). e.1 ≤ f e.0) h
   unfolding sum_of counted
   entry_counted [] f p = tt
   entry_counted (e ∷ h) f p = (omega (arith, p e.0, count_at_self less order e.0 e.1), entry_counted h f (λ x. omega (arith, p x)))
 
-  all_kept : (P Q : X × ℕ → Type 0) (p : X × ℕ → Bool) → ((e : X × ℕ) → p e ≡ true → P e → Q e) → (h : Counts X) → All P h → All Q (filter p h)
+  all_kept : (P Q : X × ℕ → Type 0) (p : X × ℕ → Bool) → ((e : X × ℕ) → p e ≡ true → P e → Q e) → (h : Counts X) → AllByRecursion P h → AllByRecursion Q (filter p h)
   all_kept P Q p f [] a = tt
   all_kept P Q p f (e ∷ h) a = go (p e) refl (all_kept P Q p f h a.1)
     where
-      go : (b : Bool) → p e ≡ b → All Q (filter p h) → All Q (cond b (e ∷ filter p h) (filter p h))
+      go : (b : Bool) → p e ≡ b → AllByRecursion Q (filter p h) → AllByRecursion Q (cond b (e ∷ filter p h) (filter p h))
       go true q r = (f e q a.0, r)
       go false q r = r
 
-  only_small : (h g : Counts X) → ((x : X) → occurs less g x ≡ 0 → counted less h x ≤ 1) → All (λ (e : X × ℕ). e.1 ≤ 1) (only less h g)
+  only_small : (h g : Counts X) → ((x : X) → occurs less g x ≡ 0 → counted less h x ≤ 1) → AllByRecursion (λ (e : X × ℕ). e.1 ≤ 1) (only less h g)
   only_small h g f =
       all_kept (λ e. e.1 ≤ counted less h e.0) (λ e. e.1 ≤ 1) (λ e. not (is_held less g e.0))
       (λ e q w. omega (arith, w, f e.0 (unheld_absent less order g e.0 (not-true (is_held less g e.0) q))))
@@ -141,7 +141,7 @@ module _ {K : Type 0} (less : K → K → Bool) (order : TotalOrder less) where
       by (one O e) (replaces a l) (replaces b m) = one (one_replace_replace less' order' C.held D.held E.held F.held x oc od of p.as_many O a b) (omega arith)
 
   module _ (plan : Plan K) (P : Content K → Type 0) (moving : Moving less plan P) where
-    pub pair_run : (C D : Content K) → P C → P D → Pair less C D → (es : List K) → All (λ x. plan.admits x ≡ true) es → Pair less (after_from plan C es) (after_from plan D es)
+    pub pair_run : (C D : Content K) → P C → P D → Pair less C D → (es : List K) → AllByRecursion (λ x. plan.admits x ≡ true) es → Pair less (after_from plan C es) (after_from plan D es)
     pair_run C D c d p [] a = p
     pair_run C D c d p (x ∷ es) a =
         pair_run (plan.rule C x) (plan.rule D x) (moving.kept C c x a.0) (moving.kept D d x a.0)

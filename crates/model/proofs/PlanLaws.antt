@@ -1,6 +1,6 @@
 -- A plan by which each entry raises, lowers or replaces keeps the four laws.
 use Rattle.std.proofs.Common.{◌≡◌, ℕ, ◌+◌, ◌*◌, Bool, true, false, cond, List, [], ◌∷◌, ◌++◌, length, sym, refl, ap, ◌∙◌, subst, true≢false, arith}
-use Rattle.std.specs.List.{AllByRecursion as All}
+use Rattle.std.specs.List.{AllByRecursion}
 use Rattle.std.proofs.ByRecursion.{All-weaker}
 use Rattle.keys.specs.Orders.{TotalOrder, same}
 use Rattle.keys.specs.Helds.{less_held}
@@ -68,12 +68,12 @@ module _ {K : Type 0} (less : K → K → Bool) (order : TotalOrder less) where
     }
 
   -- a content before any entry, whose counts are all 0
-  zeros_sum : (h : Counts (Held K)) → All (λ (e : Held K × ℕ). e.1 ≡ 0) h → sum_of (λ _ n. n) h ≡ 0
+  zeros_sum : (h : Counts (Held K)) → AllByRecursion (λ (e : Held K × ℕ). e.1 ≡ 0) h → sum_of (λ _ n. n) h ≡ 0
   unfolding sum_of
   zeros_sum [] z = refl
   zeros_sum (e ∷ h) z = omega (arith, z.0, zeros_sum h z.1)
 
-  zeros_counted : (x : Held K) (h : Counts (Held K)) → All (λ (e : Held K × ℕ). e.1 ≡ 0) h → counted (less_held less) h x ≡ 0
+  zeros_counted : (x : Held K) (h : Counts (Held K)) → AllByRecursion (λ (e : Held K × ℕ). e.1 ≡ 0) h → counted (less_held less) h x ≡ 0
   unfolding sum_of counted count_at
   zeros_counted x [] z = refl
   zeros_counted x (e ∷ h) z = go (same (less_held less) e.0 x) (zeros_counted x h z.1)
@@ -82,7 +82,7 @@ module _ {K : Type 0} (less : K → K → Bool) (order : TotalOrder less) where
       go true r = omega (arith, z.0, r)
       go false r = omega (arith, r)
 
-  pub good_fresh : (C : Content K) → Rising (less_held less) C.held → sum_of (λ _ _. 1) C.held ≡ C.k → All (λ (e : Held K × ℕ). e.1 ≡ 0) C.held →
+  pub good_fresh : (C : Content K) → Rising (less_held less) C.held → sum_of (λ _ _. 1) C.held ≡ C.k → AllByRecursion (λ (e : Held K × ℕ). e.1 ≡ 0) C.held →
       C.n ≡ 0 → C.l ≡ 0 → Good less C.k 0 (λ _. 0) C
   good_fresh C r long z n l = record {
     rising = r;

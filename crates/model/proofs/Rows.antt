@@ -1,6 +1,6 @@
 -- Keys with something beside each, in rising order, are one list where each key has the same beside it.
 use Rattle.std.proofs.Common.{◌≡◌, ℕ, Bool, true, false, cond, ◌||◌, List, [], ◌∷◌, sym, refl, ap, ◌∙◌, subst, arith}
-use Rattle.std.specs.List.{AllByRecursion as All}
+use Rattle.std.specs.List.{AllByRecursion}
 use Rattle.std.proofs.lemmas.Bool.{both_ways}
 use Rattle.keys.specs.Orders.{TotalOrder, same}
 use Rattle.keys.specs.KindOrdersLemmas.{same_self, same_equal, not_both}
@@ -12,7 +12,7 @@ module _ {X Y : Type 0} (less : X → X → Bool) (order : TotalOrder less) wher
   not_empty : (y : Y) (ys : List Y) → [] ≡ y ∷ ys → ⊥
   not_empty y ys e = let z : ◌≡◌ {A = ℕ} 0 1 = cc in omega arith
 
-  pub above_none : (x : X) (r : List (X × Y)) → All (λ (f : X × Y). less x f.0 ≡ true) r → beside less r x ≡ []
+  pub above_none : (x : X) (r : List (X × Y)) → AllByRecursion (λ (f : X × Y). less x f.0 ≡ true) r → beside less r x ≡ []
   above_none x [] p = refl
   above_none x (e ∷ r) p = go (same less e.0 x) refl (above_none x r p.1)
     where
@@ -21,7 +21,7 @@ module _ {X Y : Type 0} (less : X → X → Bool) (order : TotalOrder less) wher
       go false q s = s
 
   -- a key that has something beside it is one of the keys
-  stands : (P : X → Type 0) (x : X) (r : List (X × Y)) → All (λ (f : X × Y). P f.0) r → (y : Y) (ys : List Y) → beside less r x ≡ y ∷ ys → P x
+  stands : (P : X → Type 0) (x : X) (r : List (X × Y)) → AllByRecursion (λ (f : X × Y). P f.0) r → (y : Y) (ys : List Y) → beside less r x ≡ y ∷ ys → P x
   stands P x [] p y ys e = absurd (not_empty y ys e)
   stands P x (f ∷ r) p y ys e = go (same less f.0 x) refl e (stands P x r p.1 y ys)
     where
@@ -29,7 +29,7 @@ module _ {X Y : Type 0} (less : X → X → Bool) (order : TotalOrder less) wher
       go true q e k = subst P (same_equal less order f.0 x q) p.0
       go false q e k = k e
 
-  at_first : (e : X × Y) (r : List (X × Y)) → All (λ (f : X × Y). less e.0 f.0 ≡ true) r → beside less (e ∷ r) e.0 ≡ e.1 ∷ []
+  at_first : (e : X × Y) (r : List (X × Y)) → AllByRecursion (λ (f : X × Y). less e.0 f.0 ≡ true) r → beside less (e ∷ r) e.0 ≡ e.1 ∷ []
   at_first e r p = ap (λ (b : Bool). cond b (e.1 ∷ beside less r e.0) (beside less r e.0)) (same_self less order e.0) ∙ ap (λ (v : List Y). e.1 ∷ v) (above_none e.0 r p)
 
   -- no key is less than the first
@@ -55,8 +55,8 @@ module _ {X Y : Type 0} (less : X → X → Bool) (order : TotalOrder less) wher
       rest : (x : X) (c : Bool) → same less e.0 x ≡ c → e.0 ≡ f.0 → beside less a x ≡ beside less b x
       rest x true c k =
           let j = same_equal less order e.0 x c in
-          above_none x a (subst (λ (v : X). All (λ (g : X × Y). less v g.0 ≡ true) a) j p.0) ∙
-          sym (above_none x b (subst (λ (v : X). All (λ (g : X × Y). less v g.0 ≡ true) b) (sym k ∙ j) q.0))
+          above_none x a (subst (λ (v : X). AllByRecursion (λ (g : X × Y). less v g.0 ≡ true) a) j p.0) ∙
+          sym (above_none x b (subst (λ (v : X). AllByRecursion (λ (g : X × Y). less v g.0 ≡ true) b) (sym k ∙ j) q.0))
       rest x false c k =
           sym (ap (λ (t : Bool). cond t (e.1 ∷ beside less a x) (beside less a x)) c) ∙ s x ∙
           ap (λ (t : Bool). cond t (f.1 ∷ beside less b x) (beside less b x)) (subst (λ (v : X). same less v x ≡ false) k c)
@@ -69,7 +69,7 @@ module _ {X : Type 0} (less : X → X → Bool) (order : TotalOrder less) where
     where
       go : (b : Bool) → same less e.0 x ≡ b → beside less h x ≡ cond (is_held less h x) (count less h x ∷ []) [] →
           cond b (e.1 ∷ beside less h x) (beside less h x) ≡ cond (b || is_held less h x) (cond b e.1 (count less h x) ∷ []) []
-      go true q i = ap (λ (v : List ℕ). e.1 ∷ v) (above_none less order x h (subst (λ (v : X). All (λ (f : X × ℕ). less v f.0 ≡ true) h) (same_equal less order e.0 x q) p.0))
+      go true q i = ap (λ (v : List ℕ). e.1 ∷ v) (above_none less order x h (subst (λ (v : X). AllByRecursion (λ (f : X × ℕ). less v f.0 ≡ true) h) (same_equal less order e.0 x q) p.0))
       go false q i = i
 
   -- held keys with equal counts

@@ -1,6 +1,6 @@
 -- Laws 1 to 3, of any plan by which each entry raises, lowers or replaces.
 use Rattle.std.proofs.Common.{◌≡◌, ℕ, suc, ◌+◌, ◌*◌, ◌≤◌, Bool, true, List, [], ◌∷◌, ◌++◌, length, refl, ap, ◌∙◌, subst, inl, inr, arith}
-use Rattle.std.specs.List.{AllByRecursion as All}
+use Rattle.std.specs.List.{AllByRecursion}
 use Rattle.keys.specs.Orders.{TotalOrder}
 use Rattle.keys.specs.Helds.{less_held}
 use Rattle.keys.specs.declared.held.Held.{Held}
@@ -103,7 +103,7 @@ module _ {K : Type 0} (less : K → K → Bool) (order : TotalOrder less) where
   }
 
   module _ (plan : Plan K) (P : Content K → Type 0) (moving : Moving less plan P) where
-    pub good_run : (k n : ℕ) (taken : Held K → ℕ) (C : Content K) → P C → Good less k n taken C → (es : List K) → All (λ x. plan.admits x ≡ true) es →
+    pub good_run : (k n : ℕ) (taken : Held K → ℕ) (C : Content K) → P C → Good less k n taken C → (es : List K) → AllByRecursion (λ x. plan.admits x ≡ true) es →
         Good less k (n + length es) (λ y. taken y + taken_of less es y) (after_from plan C es)
     good_run k n taken C p g [] a = good_like k n (n + 0) taken (λ y. taken y + 0) C (omega arith) (λ y. omega arith) g
     good_run k n taken C p g (x ∷ es) a =
@@ -112,7 +112,7 @@ module _ {K : Type 0} (less : K → K → Bool) (order : TotalOrder less) where
         (good_run k (n + 1) (λ y. taken y + indicator (less_held less) (Real x) y) (plan.rule C x) (moving.kept C p x a.0)
         (good_step k n taken C (plan.rule C x) (Real x) g (moving.step C p g.rising x a.0)) es a.1)
 
-    pub kept_run : (C : Content K) → P C → (es : List K) → All (λ x. plan.admits x ≡ true) es → P (after_from plan C es)
+    pub kept_run : (C : Content K) → P C → (es : List K) → AllByRecursion (λ x. plan.admits x ≡ true) es → P (after_from plan C es)
     kept_run C p [] a = p
     kept_run C p (x ∷ es) a = kept_run (plan.rule C x) (moving.kept C p x a.0) es a.1
 
@@ -120,6 +120,6 @@ pub after-append : {K : Type 0} (plan : Plan K) (C : Content K) (xs ys : List K)
 after-append plan C [] ys = refl
 after-append plan C (x ∷ xs) ys = after-append plan (plan.rule C x) xs ys
 
-pub all_parts : {X : Type 0} (P : X → Type 0) (xs ys : List X) → All P (xs ++ ys) → All P xs × All P ys
+pub all_parts : {X : Type 0} (P : X → Type 0) (xs ys : List X) → AllByRecursion P (xs ++ ys) → AllByRecursion P xs × AllByRecursion P ys
 all_parts P [] ys a = (tt, a)
 all_parts P (x ∷ xs) ys a = let r = all_parts P xs ys a.1 in ((a.0, r.0), r.1)

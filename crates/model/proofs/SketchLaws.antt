@@ -1,6 +1,6 @@
 -- The sketch keeps the four laws: its rule raises, lowers or replaces, and a fresh sketch has every count at 0.
 use Rattle.std.proofs.Common.{◌≡◌, ℕ, zero, suc, ◌+◌, ◌<◌, Bool, true, false, ◌&&◌, ltb, leb, refl, ◌∙◌, arith}
-use Rattle.std.specs.List.{AllByRecursion as All}
+use Rattle.std.specs.List.{AllByRecursion}
 use Rattle.std.proofs.lemmas.Bool.{lt-ltb}
 use Rattle.std.proofs.lemmas.Bool.Decides.{nat_tests}
 use Rattle.keys.specs.Orders.{TotalOrder}
@@ -15,7 +15,7 @@ use Rattle.model.proofs.Moves.{sketch_step}
 use Rattle.model.proofs.PlanLaws.{lawful, good_fresh}
 
 module _ {K : Type 0} (less : K → K → Bool) (order : TotalOrder less) where
-  dummies_above : (i j n : ℕ) → i < j → All (λ (f : Held K × ℕ). less_held less (Dummy i) f.0 ≡ true) (dummies_from j n)
+  dummies_above : (i j n : ℕ) → i < j → AllByRecursion (λ (f : Held K × ℕ). less_held less (Dummy i) f.0 ≡ true) (dummies_from j n)
   dummies_above i j zero p = tt
   dummies_above i j (suc n) p = (lt-ltb i j p, dummies_above i (suc j) n (omega arith))
 
@@ -28,7 +28,7 @@ module _ {K : Type 0} (less : K → K → Bool) (order : TotalOrder less) where
   dummies_long j zero = refl
   dummies_long j (suc n) = omega (arith, dummies_long (suc j) n)
 
-  dummies_zero : (j n : ℕ) → All (λ (e : Held K × ℕ). e.1 ≡ 0) (dummies_from j n)
+  dummies_zero : (j n : ℕ) → AllByRecursion (λ (e : Held K × ℕ). e.1 ≡ 0) (dummies_from j n)
   dummies_zero j zero = tt
   dummies_zero j (suc n) = (refl, dummies_zero (suc j) n)
 

@@ -2,7 +2,7 @@
 -- `missing h g` how many of the keys of h are not in g. Idea: whatever taking does to a list changes such a sum by a
 -- term or two, so that facts on sets of keys become linear arithmetic.
 use Rattle.std.proofs.Common.{◌≡◌, ℕ, zero, suc, ◌+◌, ◌-◌, ◌≤◌, Bool, true, false, cond, ◌||◌, ◌⊎◌, [], ◌∷◌, map, length, sym, refl, ap, ◌∙◌, subst, inl, inr, arith}
-use Rattle.std.specs.List.{AllByRecursion as All}
+use Rattle.std.specs.List.{AllByRecursion}
 use Rattle.std.proofs.lemmas.Bool.{both_ways}
 use Rattle.keys.specs.Orders.{TotalOrder, same}
 use Rattle.keys.specs.KindOrdersLemmas.{same_self, same_equal}
@@ -138,7 +138,7 @@ module _ {X : Type 0} (less : X → X → Bool) (order : TotalOrder less) where
       go false q r = omega (arith, r, ap (λ (b : Bool). cond b e.1 0) q)
 
   -- in rising order no key stands twice
-  pub above_absent : (x : X) (h : Counts X) → All (λ (f : X × ℕ). less x f.0 ≡ true) h → occurs less h x ≡ 0
+  pub above_absent : (x : X) (h : Counts X) → AllByRecursion (λ (f : X × ℕ). less x f.0 ≡ true) h → occurs less h x ≡ 0
   unfolding sum_of occurs
   above_absent x [] p = refl
   above_absent x (e ∷ h) p = go (one_or_two e.0 x) (above_absent x h p.1)
@@ -157,7 +157,7 @@ module _ {X : Type 0} (less : X → X → Bool) (order : TotalOrder less) where
       go (inr q) r = omega arith
 
   -- what holds of each key holds of one that occurs
-  pub all_occurs : (P : X → Type 0) (x : X) (h : Counts X) → All (λ (e : X × ℕ). P e.0) h → 1 ≤ occurs less h x → P x
+  pub all_occurs : (P : X → Type 0) (x : X) (h : Counts X) → AllByRecursion (λ (e : X × ℕ). P e.0) h → 1 ≤ occurs less h x → P x
   unfolding sum_of occurs
   all_occurs P x [] p s = absurd (omega arith)
   all_occurs P x (e ∷ h) p s = go (one_or_two e.0 x) (all_occurs P x h p.1)

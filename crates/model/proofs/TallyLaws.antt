@@ -1,7 +1,7 @@
 -- The tally keeps the four laws, and counts exactly. Idea: it holds the same kinds all along, so that each kind that it
 -- admits is raised; it never lowers, so that the bounds of law 3 meet.
 use Rattle.std.proofs.Common.{◌≡◌, ℕ, zero, suc, ◌+◌, ◌<◌, ◌≤◌, Bool, true, false, cond, ◌||◌, ltb, ◌⊎◌, List, [], ◌∷◌, refl, ap, ◌∙◌, subst, inl, inr, arith}
-use Rattle.std.specs.List.{AllByRecursion as All}
+use Rattle.std.specs.List.{AllByRecursion}
 use Rattle.std.proofs.lemmas.Bool.Decides.{nat_tests}
 use Rattle.std.proofs.lemmas.Bool.{lt-ltb, ltb-true, ltb-false, cases_eq, or_left, or_right}
 use Rattle.keys.specs.Orders.{TotalOrder, same}
@@ -36,10 +36,10 @@ kinds_cons : (j n : ℕ) (p : j ≤ 63) → (Real (kind_at j p), 0) ∷ kinds_fr
 kinds_cons j n p = ap (λ o. at_zero_before o (kinds_from (suc j) n)) (event_made (kind_at j p))
 
 -- what holds of each kind from j on, n in all, holds of each of these keys
-kinds_all : (P : Held EventKind × ℕ → Type 0) (j n : ℕ) → j + n ≤ 64 → ((e : EventKind) → j ≤ e.number → e.number < j + n → P (Real e, 0)) → All P (kinds_from j n)
+kinds_all : (P : Held EventKind × ℕ → Type 0) (j n : ℕ) → j + n ≤ 64 → ((e : EventKind) → j ≤ e.number → e.number < j + n → P (Real e, 0)) → AllByRecursion P (kinds_from j n)
 kinds_all P j zero b f = tt
 kinds_all P j (suc n) b f =
-    subst (All P) (kinds_cons j n (omega arith)) (f (kind_at j (omega arith)) (omega arith) (omega arith), kinds_all P (suc j) n (omega arith) (λ e q r. f e (omega arith) (omega arith)))
+    subst (AllByRecursion P) (kinds_cons j n (omega arith)) (f (kind_at j (omega arith)) (omega arith) (omega arith), kinds_all P (suc j) n (omega arith) (λ e q r. f e (omega arith) (omega arith)))
 
 kinds_rise : (j n : ℕ) → j + n ≤ 64 → Rising less' (kinds_from j n)
 kinds_rise j zero b = tt
@@ -71,7 +71,7 @@ kinds_held e j (suc n) b p q =
         (subst (λ (x : EventKind). same less' (Real f) (Real x) ≡ true) (same_event f e d) (same_self less_event event_total f))
     go (inr d) r = or_right here (is_held less' (kinds_from (suc j) n) (Real e)) (r (omega arith) (omega arith))
 
-apart_unheld : (x : Held EventKind) (h : Counts (Held EventKind)) → All (λ (e : Held EventKind × ℕ). e.0 ≡ x → ⊥) h → is_held less' h x ≡ false
+apart_unheld : (x : Held EventKind) (h : Counts (Held EventKind)) → AllByRecursion (λ (e : Held EventKind × ℕ). e.0 ≡ x → ⊥) h → is_held less' h x ≡ false
 apart_unheld x [] a = refl
 apart_unheld x (e ∷ h) a = go (same less' e.0 x) refl (apart_unheld x h a.1)
   where

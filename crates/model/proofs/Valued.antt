@@ -1,6 +1,6 @@
 -- Keys with their values: when two lists show the same rows, and what one changed draw does.
 use Rattle.std.proofs.Common.{◌≡◌, ℕ, suc, Bool, true, false, cond, ◌||◌, List, [], ◌∷◌, map, length, ℤ, pos, ◌+ℤ◌, ◌≤ℤ◌, ◌<ℤ◌, filter, sym, refl, ap, ◌∙◌, subst, inl, inr, arith}
-use Rattle.std.specs.List.{AllByRecursion as All}
+use Rattle.std.specs.List.{AllByRecursion}
 use Rattle.std.proofs.lemmas.Bool.{both_ways}
 use Rattle.std.proofs.lemmas.Int.{ints}
 use Rattle.std.proofs.ByRecursion.{all_kept_by}
@@ -35,7 +35,7 @@ module _ {X : Type 0} (less : X → X → Bool) (order : TotalOrder less) where
   abbrev pub value : Counts X → ℤ → List ℤ → X → ℤ
   value h s ds x = pos (count less h x) +ℤ s +ℤ draw less h ds x
 
-  all_valued : (P : X → Type 0) (h : Counts X) (s : ℤ) (ds : List ℤ) → All (λ (e : X × ℕ). P e.0) h → All (λ (f : X × ℤ). P f.0) (valued h s ds)
+  all_valued : (P : X → Type 0) (h : Counts X) (s : ℤ) (ds : List ℤ) → AllByRecursion (λ (e : X × ℕ). P e.0) h → AllByRecursion (λ (f : X × ℤ). P f.0) (valued h s ds)
   all_valued P [] s ds p = tt
   all_valued P (e ∷ h) s [] p = tt
   all_valued P (e ∷ h) s (d ∷ ds) p = (p.0, all_valued P h s ds p.1)
@@ -72,7 +72,7 @@ module _ {X : Type 0} (less : X → X → Bool) (order : TotalOrder less) where
           cond (b || is_held less h x) ((pos (cond b e.1 (count less h x)) +ℤ s +ℤ cond b d (draw less h ds x)) ∷ []) []
       go true q i =
           ap (λ (v : List ℤ). (pos e.1 +ℤ s +ℤ d) ∷ v)
-          (above_none less order x (valued h s ds) (all_valued (λ v. less x v ≡ true) h s ds (subst (λ (v : X). All (λ (f : X × ℕ). less v f.0 ≡ true) h) (same_equal less order e.0 x q) p.0)))
+          (above_none less order x (valued h s ds) (all_valued (λ v. less x v ≡ true) h s ds (subst (λ (v : X). AllByRecursion (λ (f : X × ℕ). less v f.0 ≡ true) h) (same_equal less order e.0 x q) p.0)))
       go false q i = i
 
   -- two lists show the same rows where keys of both have equal values, and no other key reaches t

@@ -1,7 +1,7 @@
 -- There is a way to hand over draws between contents that hold as many keys. Idea: pair the keys that only one holds
 -- with those that only the other holds, in key order.
 use Rattle.std.proofs.Common.{◌≡◌, ℕ, ◌≤◌, Bool, true, false, cond, not, ◌||◌, [], ◌∷◌, length, sym, refl, ap, ◌∙◌, subst, arith}
-use Rattle.std.specs.List.{AllByRecursion as All}
+use Rattle.std.specs.List.{AllByRecursion}
 use Rattle.std.proofs.lemmas.Bool.{both_ways}
 use Rattle.keys.specs.Orders.{TotalOrder, same}
 use Rattle.keys.specs.Helds.{less_held}
@@ -40,12 +40,12 @@ module _ {X : Type 0} (less : X → X → Bool) (order : TotalOrder less) where
       go false m true r p i = ap (λ (b : Bool). b || is_held less (only less h g) x) r
       go false m false r p i = ap (λ (b : Bool). b || is_held less (only less h g) x) r ∙ i p
 
-  pub only_count : (h g : Counts X) → All (λ (e : X × ℕ). e.1 ≤ 1) (only less h g) → (x : X) → is_held less h x ≡ true → is_held less g x ≡ false → count less h x ≤ 1
+  pub only_count : (h g : Counts X) → AllByRecursion (λ (e : X × ℕ). e.1 ≤ 1) (only less h g) → (x : X) → is_held less h x ≡ true → is_held less g x ≡ false → count less h x ≤ 1
   only_count [] g a x p q = absurd (both_ways false refl p)
   only_count (e ∷ h) g a x p q = go (is_held less g e.0) refl (same less e.0 x) refl a p (λ a p. only_count h g a x p q)
     where
-      go : (c : Bool) → is_held less g e.0 ≡ c → (b : Bool) → same less e.0 x ≡ b → All (λ (e : X × ℕ). e.1 ≤ 1) (cond (not c) (e ∷ only less h g) (only less h g)) → (b || is_held less h x) ≡ true →
-          (All (λ (e : X × ℕ). e.1 ≤ 1) (only less h g) → is_held less h x ≡ true → count less h x ≤ 1) → cond b e.1 (count less h x) ≤ 1
+      go : (c : Bool) → is_held less g e.0 ≡ c → (b : Bool) → same less e.0 x ≡ b → AllByRecursion (λ (e : X × ℕ). e.1 ≤ 1) (cond (not c) (e ∷ only less h g) (only less h g)) → (b || is_held less h x) ≡ true →
+          (AllByRecursion (λ (e : X × ℕ). e.1 ≤ 1) (only less h g) → is_held less h x ≡ true → count less h x ≤ 1) → cond b e.1 (count less h x) ≤ 1
       go true m true r a p i = absurd (both_ways (is_held less g x) q (subst (λ (v : X). is_held less g v ≡ true) (same_equal less order e.0 x r) m))
       go true m false r a p i = i a p
       go false m true r a p i = a.0

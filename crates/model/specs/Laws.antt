@@ -1,6 +1,6 @@
 -- The four laws of summaries, as one record over a plan.
 use Rattle.std.specs.Prelude.{◌≡◌, ℕ, ◌+◌, ◌*◌, ◌≤◌, Bool, true, cond, List, [], ◌∷◌, ◌++◌, length, ◌≢◌}
-use Rattle.std.specs.List.{AllByRecursion as All}
+use Rattle.std.specs.List.{AllByRecursion}
 use Rattle.keys.specs.Orders.{same}
 use Rattle.keys.specs.Helds.{less_held}
 use Rattle.keys.specs.declared.held.Held.TheVariants.{Real, Dummy}
@@ -11,12 +11,12 @@ use Rattle.model.specs.Neighbours.{Neighbours}
 -- each key is less than all that follow
 abbrev pub Rising : {X Y : Type 0} → (X → X → Bool) → List (X × Y) → Type 0
 Rising less [] = Unit {0}
-Rising {X} {Y} less (e ∷ h) = All (λ (f : X × Y). less e.0 f.0 ≡ true) h × Rising less h
+Rising {X} {Y} less (e ∷ h) = AllByRecursion (λ (f : X × Y). less e.0 f.0 ≡ true) h × Rising less h
 
 -- no key stands twice
 abbrev pub Different : {X Y : Type 0} → List (X × Y) → Type 0
 Different [] = Unit {0}
-Different {X} {Y} (e ∷ h) = All (λ (f : X × Y). e.0 ≢ f.0) h × Different h
+Different {X} {Y} (e ∷ h) = AllByRecursion (λ (f : X × Y). e.0 ≢ f.0) h × Different h
 
 -- how many of the entries are x
 abbrev pub entries_of : {K : Type 0} → (K → K → Bool) → List K → K → ℕ

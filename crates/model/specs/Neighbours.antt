@@ -1,6 +1,6 @@
 -- Neighbours: the contents of two alike summaries of which one took one entry more.
 use Rattle.std.specs.Prelude.{◌≡◌, ℕ, ◌+◌, ◌≤◌, Bool, true, false, not, ◌⊎◌, length, filter, ◌≢◌}
-use Rattle.std.specs.List.{AllByRecursion as All}
+use Rattle.std.specs.List.{AllByRecursion}
 use Rattle.keys.specs.Helds.{less_held}
 use Rattle.keys.specs.declared.held.Held.{Held}
 use Rattle.model.specs.Contents.{Counts, Content, is_held, holds, count_of}
@@ -17,7 +17,7 @@ module _ {K : Type 0} (less : K → K → Bool) where
   -- at most two keys of C are not held by D, and each of these counts 0 or 1
   pub record FewOnly (C D : Content K) : Type 0 where
     pub two : length (only_in C D) ≤ 2
-    pub small : All (λ (e : Held K × ℕ). e.1 ≤ 1) (only_in C D)
+    pub small : AllByRecursion (λ (e : Held K × ℕ). e.1 ≤ 1) (only_in C D)
 
   -- case one: one key counts 1 more in C, all others count the same, and l is the same
   pub record CaseOne (C D : Content K) : Type 0 where

@@ -1,6 +1,6 @@
 -- The plan of a summary, which is what alike summaries share, and the content after a list of entries.
 use Rattle.std.specs.Prelude.{◌≡◌, ℕ, ◌+◌, ◌≤◌, Bool, true, cond, List, [], ◌∷◌, map, length}
-use Rattle.std.specs.List.{AllByRecursion as All}
+use Rattle.std.specs.List.{AllByRecursion}
 use Rattle.keys.specs.Orders.{same}
 use Rattle.keys.specs.declared.held.Held.{Held}
 use Rattle.model.specs.Contents.{Counts, Content}
@@ -28,7 +28,7 @@ most_entries = 4294967295
 
 -- a list of entries that a summary can have taken
 pub record Entries {K : Type 0} (plan : Plan K) (es : List K) : Type 0 where
-  pub admitted : All (λ x. plan.admits x ≡ true) es
+  pub admitted : AllByRecursion (λ x. plan.admits x ≡ true) es
   pub few : length es ≤ most_entries
 
 -- what rules are made of: C with one entry more, l lowerings and these keys held
