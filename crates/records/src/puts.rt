@@ -56,8 +56,8 @@ fn put_bytes(word: &[u8], out: &mut [u8], at: usize) -> usize
 
 /// A flight word, if it is present: its length, then its bytes.
 pub(crate) fn put_word(field: Option<&[u8]>, out: &mut [u8], at: usize) -> usize
-    requires field_value { word_fits (bytes_of field) ≡ true }
-    requires field_in_bounds { at + length (encode_word (bytes_of field)) ≤ length out.old }
+    requires fits { word_fits (bytes_of field) ≡ true }
+    requires room { at + length (encode_word (bytes_of field)) ≤ length out.old }
     ensures place { result ≡ at + length (encode_word (bytes_of field.entry)) }
     ensures written { out.new ≡ pasted out.old at (encode_word (bytes_of field.entry)) }
 {

@@ -122,9 +122,9 @@ fn length_of(given: &Record<'_>) -> usize
 
 /// Writes the map byte and the fields at the start of the output, which has room for them.
 fn write_fields(given: &Record<'_>, map: u8, out: &mut [u8])
-    requires map_value { map ≡ map_of (value_of given.now) }
-    requires flight_value { word_fits (bytes_of given.now.flight) ≡ true }
-    requires given_in_bounds { length (encode (value_of given.now)) ≤ length out.old }
+    requires map_byte { map ≡ map_of (value_of given.now) }
+    requires fits { word_fits (bytes_of given.now.flight) ≡ true }
+    requires room { length (encode (value_of given.now)) ≤ length out.old }
     ensures { out.new ≡ encode (value_of given.now) ++ drop (length (encode (value_of given.now))) out.old }
 {
     let at = put_byte(Some(map), out, 0);

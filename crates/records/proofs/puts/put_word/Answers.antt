@@ -14,6 +14,6 @@ returns-in_default c =
 pub returns : goal.returns
 returns c =
     let e = ap (λ f. encode_word (bytes_of f)) c.in-Some.is in
-    let room = c.requires.field_in_bounds in
+    let room = c.requires.room in
     let all = onward c.args.out.now _ _ c.args.at _ _ _ c.put-at.ensures.written c.put_bytes.ensures.written (omega arith) (omega (arith, ap length e)) in
     record { place = omega (arith, ap length e); written = all ∙ ap (pasted c.args.out.now c.args.at) (sym e) }

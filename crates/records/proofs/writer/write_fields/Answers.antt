@@ -12,9 +12,9 @@ returns c =
     let m : RecordValue = value_of c.args.given.now in
     let o = c.args.out.now in
     let n = encode_length m in
-    let room : length (encode m) ≤ length o = c.requires.given_in_bounds in
+    let room : length (encode m) ≤ length o = c.requires.room in
     let a : Front o (map_of m ∷ []) c.put_byte-at.new.out c.put_byte-at.result =
-    (c.put_byte-at.ensures.written ∙ ap (λ b. pasted o 0 (b ∷ [])) c.requires.map_value, c.put_byte-at.ensures.place) in
+    (c.put_byte-at.ensures.written ∙ ap (λ b. pasted o 0 (b ∷ [])) c.requires.map_byte, c.put_byte-at.ensures.place) in
     let b = go_on o _ _ _ _ _ (encode_four m.time) a c.put_four-at.ensures.written c.put_four-at.ensures.place (omega arith) in
     let d = go_on o _ _ _ _ _ (encode_byte m.kind) b c.put_byte-at-2.ensures.written c.put_byte-at-2.ensures.place (omega arith) in
     let e = go_on o _ _ _ _ _ (encode_byte m.console) d c.put_byte-at-3.ensures.written c.put_byte-at-3.ensures.place (omega arith) in
