@@ -22,8 +22,8 @@ text_more index r log =
     ∙ ap (λ n. line_of index r ++ (lines_from (index + 1) log.records ++ last_line n log.fault)) (omega arith)
 
 -- a record that can be written has a flight word or none
-pub word_of : (r : RecordValue) → is_record r ≡ true → word_fits r.flight ≡ true
-word_of r h = (and_parts _ (word_fits r.flight) (and_parts (ltb 0 (map_of r)) (in_range r) h).1).1
+pub flight_fits : (r : RecordValue) → is_record r ≡ true → word_fits r.flight ≡ true
+flight_fits r h = (and_parts _ (word_fits r.flight) (and_parts (ltb 0 (map_of r)) (in_range r) h).1).1
 
 -- one turn: `left` is what the log holds from `at` on
 module _ (was so log : List ℕ) (at index : ℕ) (s : Sofar was so log at index) (bytes : Bytes log) (left : List ℕ) (is : left ≡ drop at log) where

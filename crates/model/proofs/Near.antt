@@ -9,7 +9,7 @@ use Rattle.model.proofs.Moves.{SameKeys, KeysSwapped, RaisedSums, LoweredSums, R
 use Rattle.model.proofs.Missing.{missing_bound, missing_two, missing_none, missing_only, missing_sym, kept_occurs, swapped_occurs, missing_kept, missing_swap_first, missing_swap_second}
 
 module _ {X : Type 0} (less : X → X → Bool) where
-  -- i counts 1 more in h. Where i is held by g too, at 0, it may yet leave g, so that the missing long-has-i room for it
+  -- i counts 1 more in h. Where i is held by g too, at 0, it may yet leave g, and `room` is left for it
   pub record NearOne (h g : Counts X) : Type 0 where
     pub i : X
     pub counts : (x : X) → counted less h x ≡ counted less g x + indicator less i x
@@ -94,7 +94,7 @@ module _ {X : Type 0} (less : X → X → Bool) (order : TotalOrder less) (h g t
           room = room_kept (λ s w. omega (arith, s, w, b.counts O.i, kept_occurs less order g u b.keys O.i)) (omega (arith, d));
         }
 
-    -- g long-has-i no key at 0, so that h holds each of its keys
+    -- g has no key at 0, so that h holds each of its keys
     none_missing : LoweredSums less g y u → missing less h g ≡ 0
     none_missing b = missing_back ∙ missing_none less order g h (λ x s. omega (arith, s, b.no_zero x, O.counts x, present less order h x))
 
@@ -111,7 +111,7 @@ module _ {X : Type 0} (less : X → X → Bool) (order : TotalOrder less) (h g t
           room = room_kept (λ s w. omega (arith, s, w, b.counts O.i, swapped_occurs less order b.gone y g u b.keys O.i)) d;
         }
 
-    -- h long-has-i no key at 0, so that of the keys that g short-lacks-i it holds at at-most-i i
+    -- h has no key at 0, so that of the keys that g lacks it holds at most i
     at_most_i : LoweredSums less h y t → missing less h g ≤ 1
     at_most_i a = missing_only less order h g oh O.i (λ x s. omega (arith, s, a.no_zero x, O.counts x, present less order g x))
 

@@ -2,11 +2,11 @@
 use Rattle.std.proofs.Common.{length, string_bytes, arith}
 use Rattle.std.proofs.lemmas.Slice.{between_to_end}
 use Rattle.records.specs.Values.{value_of}
-use Rattle.dump.proofs.Walking.{word_of, step_more, step_stopped, step_ended}
+use Rattle.dump.proofs.Walking.{flight_fits, step_more, step_stopped, step_ended}
 use Rattle.dump.proofs.lines.push_log.Goals as goal
 
 pub push_record-requires : goal.push_record-requires
-push_record-requires c = word_of (value_of c.in-Ok.given) c.in-Ok.ensures.laws.valid
+push_record-requires c = flight_fits (value_of c.in-Ok.given) c.in-Ok.ensures.laws.valid
 
 pub loop-at-preserved : goal.loop-at-preserved
 loop-at-preserved c =
