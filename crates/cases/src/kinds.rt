@@ -5,20 +5,22 @@ use keys::refusal::Refusal;
 use keys::word::FlightWord;
 use std::test::Fail;
 
-/// The number of a refusal; 0 where there is none.
-fn refused<T: Drop>(answer: Result<T, Refusal>) -> u8 {
-    match answer {
-        Ok(_) => 0,
-        Err(refusal) => refusal.number(),
-    }
+/// The number of the refusal, if there is one.
+fn refused<T: Drop>(answer: Result<T, Refusal>) -> Option<u8> {
+    answer.err().map(|refusal| refusal.number())
+}
+
+/// The flight word of a byte string of any length.
+pub(crate) fn flight_word(bytes: &[u8]) -> Result<FlightWord, Refusal> {
+    FlightWord::try_from(bytes)
 }
 
 #[test]
 fn event_kinds(rt: HostRuntime) -> Result<(), Fail> {
-    assert_eq!(rt; EventKind::make(0)?.number(), 0);
-    assert_eq!(rt; EventKind::make(63)?.number(), 63);
-    assert_eq!(rt; refused(EventKind::make(64)), 1);
-    assert_eq!(rt; refused(EventKind::make(255)), 1);
+    assert_eq!(rt; EventKind::try_from(0)?.number(), 0);
+    assert_eq!(rt; EventKind::try_from(63)?.number(), 63);
+    assert_eq!(rt; refused(EventKind::try_from(64)), Some(1));
+    assert_eq!(rt; refused(EventKind::try_from(255)), Some(1));
     Ok(())
 }
 
@@ -29,10 +31,10 @@ fn prefixes(rt: HostRuntime) -> Result<(), Fail> {
     assert_eq!(rt; half.bits(), 16);
     assert_eq!(rt; Prefix::make(0, 0)?.bits(), 0);
     assert_eq!(rt; Prefix::make(u32::MAX, 32)?.address(), u32::MAX);
-    assert_eq!(rt; refused(Prefix::make(0, 33)), 1);
-    assert_eq!(rt; refused(Prefix::make(1, 31)), 1);
-    assert_eq!(rt; refused(Prefix::make(0x8000_0000, 0)), 1);
-    assert_eq!(rt; refused(Prefix::make(0x0A01_0001, 16)), 1);
+    assert_eq!(rt; refused(Prefix::make(0, 33)), Some(1));
+    assert_eq!(rt; refused(Prefix::make(1, 31)), Some(1));
+    assert_eq!(rt; refused(Prefix::make(0x8000_0000, 0)), Some(1));
+    assert_eq!(rt; refused(Prefix::make(0x0A01_0001, 16)), Some(1));
     Ok(())
 }
 
@@ -44,20 +46,20 @@ fn containing_prefixes(rt: HostRuntime) -> Result<(), Fail> {
     assert_eq!(rt; Prefix::containing(u32::MAX, 31)?.address(), 0xFFFF_FFFE);
     assert_eq!(rt; Prefix::containing(u32::MAX, 32)?.address(), u32::MAX);
     assert_eq!(rt; Prefix::containing(u32::MAX, 32)?.bits(), 32);
-    assert_eq!(rt; refused(Prefix::containing(0, 33)), 1);
+    assert_eq!(rt; refused(Prefix::containing(0, 33)), Some(1));
     Ok(())
 }
 
 #[test]
 fn flight_words(rt: HostRuntime) -> Result<(), Fail> {
-    assert!(rt; FlightWord::make(b" ")?.bytes() == b" ".as_slice());
-    assert!(rt; FlightWord::make(b"ABCDEFG_")?.bytes() == b"ABCDEFG_".as_slice());
-    assert!(rt; FlightWord::make(b"A ")?.bytes() == b"A ".as_slice());
-    assert_eq!(rt; refused(FlightWord::make(b"")), 1);
-    assert_eq!(rt; refused(FlightWord::make(b"ABCDEFGHI")), 1);
-    assert_eq!(rt; refused(FlightWord::make(b"\x1F")), 1);
-    assert_eq!(rt; refused(FlightWord::make(b"ABCDEFG\x60")), 1);
-    assert_eq!(rt; refused(FlightWord::make(b"Abc")), 1);
+    assert!(rt; flight_word(b" ")?.bytes() == b" ".as_slice());
+    assert!(rt; flight_word(b"ABCDEFG_")?.bytes() == b"ABCDEFG_".as_slice());
+    assert!(rt; flight_word(b"A ")?.bytes() == b"A ".as_slice());
+    assert_eq!(rt; refused(flight_word(b"")), Some(1));
+    assert_eq!(rt; refused(flight_word(b"ABCDEFGHI")), Some(1));
+    assert_eq!(rt; refused(flight_word(b"\x1F")), Some(1));
+    assert_eq!(rt; refused(flight_word(b"ABCDEFG\x60")), Some(1));
+    assert_eq!(rt; refused(flight_word(b"Abc")), Some(1));
     Ok(())
 }
 

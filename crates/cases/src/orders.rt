@@ -1,10 +1,10 @@
 //! The order of each kind.
+use crate::kinds::flight_word;
 use keys::event::EventKind;
 use keys::held::Held;
 use keys::kind::{Kind, before, same};
 use keys::pair::Pair;
 use keys::prefix::Prefix;
-use keys::word::FlightWord;
 use std::test::Fail;
 
 /// The first is less, the second is not, and each is the same as itself alone.
@@ -18,8 +18,8 @@ fn rising<K: Kind>(low: &K, high: &K) -> bool {
 
 #[test]
 fn event_kinds(rt: HostRuntime) -> Result<(), Fail> {
-    assert!(rt; rising(&EventKind::make(0)?, &EventKind::make(1)?));
-    assert!(rt; rising(&EventKind::make(9)?, &EventKind::make(63)?));
+    assert!(rt; rising(&EventKind::try_from(0)?, &EventKind::try_from(1)?));
+    assert!(rt; rising(&EventKind::try_from(9)?, &EventKind::try_from(63)?));
     Ok(())
 }
 
@@ -36,13 +36,13 @@ fn prefixes(rt: HostRuntime) -> Result<(), Fail> {
 
 #[test]
 fn flight_words(rt: HostRuntime) -> Result<(), Fail> {
-    let ab = FlightWord::make(b"AB")?;
-    assert!(rt; rising(&FlightWord::make(b"A")?, &ab));
-    assert!(rt; rising(&ab, &FlightWord::make(b"AB ")?));
-    assert!(rt; rising(&ab, &FlightWord::make(b"AC")?));
-    assert!(rt; rising(&ab, &FlightWord::make(b"B")?));
-    assert!(rt; rising(&FlightWord::make(b"A99999")?, &ab));
-    assert!(rt; rising(&FlightWord::make(b" _______")?, &ab));
+    let ab = flight_word(b"AB")?;
+    assert!(rt; rising(&flight_word(b"A")?, &ab));
+    assert!(rt; rising(&ab, &flight_word(b"AB ")?));
+    assert!(rt; rising(&ab, &flight_word(b"AC")?));
+    assert!(rt; rising(&ab, &flight_word(b"B")?));
+    assert!(rt; rising(&flight_word(b"A99999")?, &ab));
+    assert!(rt; rising(&flight_word(b" _______")?, &ab));
     Ok(())
 }
 
@@ -83,8 +83,8 @@ fn pairs_of_numbers(rt: HostRuntime) {
 
 #[test]
 fn held_keys(rt: HostRuntime) -> Result<(), Fail> {
-    let last = Held::Real(EventKind::make(63)?);
-    assert!(rt; rising(&Held::Real(EventKind::make(0)?), &last));
+    let last = Held::Real(EventKind::try_from(63)?);
+    assert!(rt; rising(&Held::Real(EventKind::try_from(0)?), &last));
     assert!(rt; rising(&last, &Held::Dummy(0)));
     assert!(rt; rising::<Held<EventKind>>(&Held::Dummy(0), &Held::Dummy(1)));
     Ok(())
@@ -92,7 +92,7 @@ fn held_keys(rt: HostRuntime) -> Result<(), Fail> {
 
 #[test]
 fn counts_then_held_keys(rt: HostRuntime) -> Result<(), Fail> {
-    let word = Held::Real(FlightWord::make(b"A")?);
+    let word = Held::Real(flight_word(b"A")?);
     let low = Pair {
         first: 3u32,
         second: word,

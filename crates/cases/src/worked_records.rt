@@ -1,20 +1,18 @@
 //! The worked records, read.
+use keys::refusal::Refusal;
 use records::reader::read;
 use std::test::Fail;
 
 /// The number and the place of the fault; none where the input reads.
 fn fault_of(input: &[u8]) -> Option<(u8, usize)> {
-    match read(input) {
-        Ok(_) => None,
-        Err(fault) => Some((fault.refusal().number(), fault.place())),
-    }
+    read(input)
+        .err()
+        .map(|fault| (Refusal::from(fault).number(), fault.place()))
 }
 
 #[test]
 fn kind_and_address(rt: HostRuntime) -> Result<(), Fail> {
-    let Ok((given, n)) = read(b"\x0A\x07\x0A\x01\x02\x03") else {
-        return Err(Fail::new("refused"));
-    };
+    let (given, n) = read(b"\x0A\x07\x0A\x01\x02\x03")?;
     assert_eq!(rt; n, 6);
     assert_eq!(rt; given.time, None);
     assert_eq!(rt; given.kind, Some(7));
@@ -26,14 +24,9 @@ fn kind_and_address(rt: HostRuntime) -> Result<(), Fail> {
 
 #[test]
 fn a_word_is_a_part_of_the_input(rt: HostRuntime) -> Result<(), Fail> {
-    let Ok((given, n)) = read(b"\x10\x03KLM\xFF") else {
-        return Err(Fail::new("refused"));
-    };
-    let Some(word) = given.flight else {
-        return Err(Fail::new("no word"));
-    };
+    let (given, n) = read(b"\x10\x03KLM\xFF")?;
     assert_eq!(rt; n, 5);
-    assert!(rt; word == b"KLM".as_slice());
+    assert_eq!(rt; given.flight, Some(b"KLM".as_slice()));
     Ok(())
 }
 

@@ -14,38 +14,37 @@ fn of(time: Option<u32>, console: Option<u8>, flight: Option<&[u8]>) -> Record<'
     }
 }
 
-/// The number of the refusal, or 0; 255 if a refusal changed a byte.
-fn refused(given: Record<'_>, room: usize) -> u8 {
+/// The number of the refusal, if there is one; it fails if a refusal changed a byte.
+fn refused(given: Record<'_>, room: usize) -> Result<Option<u8>, Fail> {
     let mut out = [0xAAu8; 20];
-    let number = match write(&given, &mut out[0..room.min(20)]) {
-        Ok(_) => return 0,
-        Err(refusal) => refusal.number(),
-    };
-    if out == [0xAAu8; 20] { number } else { 255 }
+    let refusal = write(&given, &mut out[..room.min(20)]).err();
+    if refusal.is_some() && out != [0xAAu8; 20] {
+        return Err(Fail::new("a refusal changed the output"));
+    }
+    Ok(refusal.map(|refusal| refusal.number()))
 }
 
 #[test]
-fn refusals_in_order(rt: HostRuntime) {
-    assert_eq!(rt; refused(of(None, None, None), 0), 3);
-    assert_eq!(rt; refused(of(Some(86_400), None, None), 0), 5);
-    assert_eq!(rt; refused(of(Some(86_399), None, None), 4), 15);
-    assert_eq!(rt; refused(of(Some(86_399), None, None), 5), 0);
-    assert_eq!(rt; refused(of(None, Some(0), None), 20), 5);
-    assert_eq!(rt; refused(of(None, Some(251), Some(b"A")), 20), 5);
-    assert_eq!(rt; refused(of(None, None, Some(b"")), 20), 5);
-    assert_eq!(rt; refused(of(None, None, Some(b"123456789")), 20), 5);
-    assert_eq!(rt; refused(of(None, None, Some(b"A\x60")), 0), 5);
-    assert_eq!(rt; refused(of(None, None, Some(b"12345678")), 9), 15);
-    assert_eq!(rt; refused(of(None, None, Some(b"12345678")), 10), 0);
+fn refusals_in_order(rt: HostRuntime) -> Result<(), Fail> {
+    assert_eq!(rt; refused(of(None, None, None), 0)?, Some(3));
+    assert_eq!(rt; refused(of(Some(86_400), None, None), 0)?, Some(5));
+    assert_eq!(rt; refused(of(Some(86_399), None, None), 4)?, Some(15));
+    assert_eq!(rt; refused(of(Some(86_399), None, None), 5)?, None);
+    assert_eq!(rt; refused(of(None, Some(0), None), 20)?, Some(5));
+    assert_eq!(rt; refused(of(None, Some(251), Some(b"A")), 20)?, Some(5));
+    assert_eq!(rt; refused(of(None, None, Some(b"")), 20)?, Some(5));
+    assert_eq!(rt; refused(of(None, None, Some(b"123456789")), 20)?, Some(5));
+    assert_eq!(rt; refused(of(None, None, Some(b"A\x60")), 0)?, Some(5));
+    assert_eq!(rt; refused(of(None, None, Some(b"12345678")), 9)?, Some(15));
+    assert_eq!(rt; refused(of(None, None, Some(b"12345678")), 10)?, None);
+    Ok(())
 }
 
 #[test]
 fn the_rest_stays(rt: HostRuntime) -> Result<(), Fail> {
     let mut out = [0xAAu8; 8];
     let given = of(Some(0x0001_0203), None, Some(b"A"));
-    let Ok(n) = write(&given, &mut out) else {
-        return Err(Fail::new("refused"));
-    };
+    let n = write(&given, &mut out)?;
     assert_eq!(rt; n, 7);
     assert!(rt; out == [0x11, 0, 1, 2, 3, 1, 0x41, 0xAA]);
     Ok(())

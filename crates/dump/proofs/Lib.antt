@@ -1,2 +1,2 @@
-pub mod Adding
+pub mod Texts
 pub mod Walking

@@ -1,5 +1,5 @@
 -- The text of a log: a line for each record, then the number of records, or the fault.
-use Rattle.std.specs.Prelude.{ℕ, ◌+◌, ◌/◌, ◌%◌, cond, List, [], ◌∷◌, ◌++◌, length, Some, None, codes, decimal, Option, nat_le}
+use Rattle.std.specs.Prelude.{ℕ, ◌+◌, ◌/◌, ◌%◌, cond, List, [], ◌∷◌, ◌++◌, length, Some, None, codes, decimal, Option, option_map, nat_le}
 use Rattle.keys.specs.Refusals.{number_of}
 use Rattle.records.specs.Faults.{refusal_of}
 use Rattle.records.specs.Values.{RecordValue}
@@ -22,6 +22,15 @@ source_part None = []
 abbrev pub flight_part : Option (List ℕ) → List ℕ
 flight_part (Some w) = codes " flight \"" ++ (w ++ codes "\"")
 flight_part None = []
+
+-- a word between two quotes
+abbrev pub quoted_text : List ℕ → List ℕ
+quoted_text w = codes "\"" ++ (w ++ codes "\"")
+
+-- a field with its name, whose value prints what `output` says; nothing where it is missing
+abbrev pub field_output : {T : Type 0} → (T → Option (List ℕ)) → (name : List ℕ) → Option T → Option (List ℕ)
+field_output output name (Some v) = option_map (λ text. codes " " ++ (name ++ (codes " " ++ text))) (output v)
+field_output output name None = Some []
 
 -- a record's line: its index, then its fields in bit order
 abbrev pub line_of : (index : ℕ) → RecordValue → List ℕ

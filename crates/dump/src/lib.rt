@@ -12,7 +12,7 @@ use crate::lines::push_log;
 use std::alloc::{AllocError, Global};
 
 /// The most bytes of a log that are printed; of a longer one the text is only `long`.
-const MOST: usize = 65_536;
+pub const MOST: usize = 65_536;
 
 /// What is printed of a log, or an error. The code fails only where memory does; the contract leaves open when.
 pub fn dump(heap: Global, log: &[u8]) -> Result<String, AllocError>

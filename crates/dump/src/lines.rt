@@ -1,135 +1,130 @@
-//! The lines of a log's text, each added to what is there already.
-ghost use Rattle.std.specs.Prelude.{◌≡◌, ◌+◌, ◌^◌, ◌<◌, true, ◌++◌, string_bytes, OnOk};
+//! The lines of a log's text.
+ghost use Rattle.std.specs.Prelude.{◌≡◌, true, Some, ◌++◌, string_bytes, OnOk};
+ghost use Rattle.std.specs.Net.Addr.{ipv4_octets};
+ghost use Rattle.std.specs.Net.Text.{ipv4_text};
 ghost use Rattle.keys.specs.Words.{is_word};
 ghost use Rattle.records.specs.Values.{bytes_of, value_of};
 ghost use Rattle.records.specs.Writing.{word_fits};
-ghost use Rattle.records.specs.Faults.{place_of};
-ghost use Rattle.records.specs.Logs.{ended, stopped, log_of};
-ghost use Rattle.dump.specs.Lines.{number_part, source_part, flight_part, line_of, text_from, text_of};
+ghost use Rattle.records.specs.Items.{fault_of};
+ghost use Rattle.records.specs.Logs.{log_of};
+ghost use Rattle.dump.specs.Lines.{dotted, quoted_text, field_output, line_of, last_line, text_of};
 
-use records::fault::ReadFault;
-use records::reader::read;
+use keys::refusal::Refusal;
+use records::log::{LogFault, Records};
 use records::record::Record;
 use std::alloc::AllocError;
+use std::net::Ipv4Addr;
+use std::{fmt, str};
 
-/// A number as it is.
-fn widened(field: Option<u8>) -> Option<u32>
-    ensures { result ≡ field }
-{
-    match field {
-        Some(value) => Some(u32::from(value)),
-        None => None,
-    }
-}
+/// A field with its name; nothing is printed of a field that is missing.
+#[derive(Clone, Copy)]
+struct Field<'a, T>(&'a str, Option<T>);
 
-/// A field that is a number, with its name.
-fn push_number(text: &mut String, name: &str, field: Option<u32>) -> Result<(), AllocError>
-    ensures { OnOk result (string_bytes text.new ≡ string_bytes text.old ++ number_part name.now field) }
-{
-    match field {
-        Some(value) => write!(text, " {name} {value}"),
-        None => Ok(()),
-    }
-}
+impl<T: fmt::Display> fmt::Display for Field<'_, T> {
+    ghost output = { λ field. field_output T.output field.0.now field.1 };
 
-/// The source address as its four bytes.
-fn push_source(text: &mut String, field: Option<u32>) -> Result<(), AllocError>
-    ensures { OnOk result (string_bytes text.new ≡ string_bytes text.old ++ source_part field) }
-{
-    match field {
-        Some(v) => {
-            let a = v / 16_777_216;
-            let b = v / 65_536 % 256;
-            let c = v / 256 % 256;
-            let d = v % 256;
-            write!(text, " source {a}.{b}.{c}.{d}")
+    fn fmt<W: fmt::Write>(&self, f: &mut fmt::Formatter<W>) -> fmt::Result {
+        let name = self.0;
+        match &self.1 {
+            Some(value) => write!(f, " {name} {value}"),
+            None => Ok(()),
         }
-        None => Ok(()),
     }
 }
 
-/// The bytes of a flight word, which are all characters.
-fn push_bytes(text: &mut String, word: &[u8]) -> Result<(), AllocError>
-    requires { is_word word.now ≡ true }
-    ensures { OnOk result (string_bytes text.new ≡ string_bytes text.old ++ word.now) }
+/// The address of these bits, which prints itself as its four bytes.
+#[tactic(auto, using(crate::proofs::Texts::ipv4_dotted))]
+fn address(bits: u32) -> Ipv4Addr
+    ensures { ipv4_text (ipv4_octets result) ≡ dotted bits }
 {
-    for b in word {
-        let character = char::from(*b);
-        write!(text, "{character}")?;
+    // `map(Ipv4Addr::from)` would not do: of a number in an `Option` it is not known that it fits in 32 bits
+    Ipv4Addr::from(bits)
+}
+
+/// A flight word, which is printed in quotes.
+#[derive(Clone, Copy)]
+struct Quoted<'a>(&'a str);
+
+impl<'a> Quoted<'a> {
+    /// All bytes of a flight word are characters.
+    #[tactic(auto, using(crate::proofs::Texts::word_utf8))]
+    fn new(word: &'a [u8]) -> Quoted<'a>
+        requires { is_word word.now ≡ true }
+        ensures { result.0.now ≡ word.now }
+    {
+        Quoted(str::from_utf8(word).unwrap())
     }
-    Ok(())
 }
 
-/// The flight word in quotes.
-fn push_flight(text: &mut String, field: Option<&[u8]>) -> Result<(), AllocError>
-    requires { word_fits (bytes_of field) ≡ true }
-    ensures { OnOk result (string_bytes text.new ≡ string_bytes text.old ++ flight_part (bytes_of field.entry)) }
-{
-    let Some(word) = field else {
-        return Ok(());
-    };
-    write!(text, " flight \"")?;
-    push_bytes(text, word)?;
-    write!(text, "\"")?;
-    Ok(())
+impl fmt::Display for Quoted<'_> {
+    ghost output = { λ quoted. Some (quoted_text quoted.0.now) };
+
+    fn fmt<W: fmt::Write>(&self, f: &mut fmt::Formatter<W>) -> fmt::Result {
+        let word = self.0;
+        write!(f, "\"{word}\"")
+    }
 }
 
-/// The line of a record.
-fn push_record(text: &mut String, index: usize, given: &Record<'_>) -> Result<(), AllocError>
-    requires { word_fits (bytes_of given.now.flight) ≡ true }
-    ensures { OnOk result (string_bytes text.new ≡ string_bytes text.old ++ line_of index (value_of given.now)) }
-{
-    write!(text, "{index}")?;
-    push_number(text, "time", given.time)?;
-    push_number(text, "kind", widened(given.kind))?;
-    push_number(text, "console", widened(given.console))?;
-    push_source(text, given.source)?;
-    push_flight(text, given.flight)?;
-    write!(text, "\n")?;
-    Ok(())
-}
-
-/// The last line of a torn log: the fault in the record that begins at `at`.
-fn push_fault(
-    text: &mut String,
-    fault: ReadFault,
+/// The line of the record of this index.
+#[derive(Clone, Copy)]
+struct RecordLine<'a> {
     index: usize,
-    at: usize,
-) -> Result<(), AllocError>
-    requires { at + place_of fault < 2 ^ 64 }
-    ensures { OnOk result (string_bytes text.new ≡ string_bytes text.old ++ text_from index (stopped fault index at)) }
-{
-    let number = fault.refusal().number();
-    let offset = at + fault.place();
-    write!(text, "fault 1 {number} {index} {offset}\n")
+    given: Record<'a>,
+    ghost fits: { word_fits (bytes_of given.flight) ≡ true },
 }
 
-/// The last line of a whole log.
-fn push_count(text: &mut String, count: usize) -> Result<(), AllocError>
-    ensures { OnOk result (string_bytes text.new ≡ string_bytes text.old ++ text_from count ended) }
-{
-    write!(text, "records {count}\n")
+impl fmt::Display for RecordLine<'_> {
+    ghost output = { λ line. Some (line_of line.index (value_of line.given)) };
+
+    fn fmt<W: fmt::Write>(&self, f: &mut fmt::Formatter<W>) -> fmt::Result {
+        let index = self.index;
+        let given = self.given;
+        let time = Field("time", given.time);
+        let kind = Field("kind", given.kind);
+        let console = Field("console", given.console);
+        let source = Field("source", given.source.map(address));
+        let flight = Field("flight", given.flight.map(Quoted::new));
+        writeln!(f, "{index}{time}{kind}{console}{source}{flight}")
+    }
 }
 
-/// All lines of a log.
+/// The last line of a torn log.
+#[derive(Clone, Copy)]
+struct FaultLine(LogFault);
+
+impl fmt::Display for FaultLine {
+    ghost output = { λ line. Some (last_line 0 (Some (fault_of line.0))) };
+
+    fn fmt<W: fmt::Write>(&self, f: &mut fmt::Formatter<W>) -> fmt::Result {
+        let number = Refusal::from(self.0.fault).number();
+        let index = self.0.index;
+        let offset = self.0.offset;
+        writeln!(f, "fault 1 {number} {index} {offset}")
+    }
+}
+
+/// Adds all lines of a log.
+#[tactic(auto, using(crate::proofs::Walking::begun))]
 pub(crate) fn push_log(text: &mut String, log: &[u8]) -> Result<(), AllocError>
     ensures { OnOk result (string_bytes text.new ≡ string_bytes text.old ++ text_of (log_of log.now)) }
 {
-    let mut at = 0;
-    let mut index = 0;
-    while at < log.len() {
-        match read(&log[at..]) {
-            Ok((given, n)) => {
-                push_record(text, index, &given)?;
-                at += n;
-                index += 1;
+    // the last line tells it too, so `enumerate` would not do
+    let mut count = 0;
+    for item in Records::new(log) {
+        match item {
+            Ok(given) => {
+                let line = RecordLine {
+                    index: count,
+                    given,
+                };
+                write!(text, "{line}")?;
+                count += 1;
             }
             Err(fault) => {
-                push_fault(text, fault, index, at)?;
-                return Ok(());
+                let line = FaultLine(fault);
+                return write!(text, "{line}");
             }
         }
     }
-    push_count(text, index)?;
-    Ok(())
+    writeln!(text, "records {count}")
 }

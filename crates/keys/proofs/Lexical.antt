@@ -1,45 +1,24 @@
--- What `cmp` answers of two flight words, by their order; zeros behind a word; its first wrong byte.
-use Rattle.std.proofs.Common.{◌≡◌, ℕ, zero, suc, ◌+◌, ◌-◌, ◌<◌, ◌≤◌, Bool, true, false, cond, List, [], ◌∷◌, ◌++◌, length, get_or, take, set, replicate, Ordering, Less, Equal, Greater, sym, refl, ap, ◌∙◌, true≢false, arith}
+-- The first wrong byte of a list: `first_wrong` is its place, and no other place is one; and zeros behind a word.
+use Rattle.std.proofs.Common.{◌≡◌, ℕ, zero, suc, ◌<◌, ◌≤◌, Bool, true, false, cond, List, [], ◌∷◌, ◌++◌, ◌+◌, ◌-◌, take, set, replicate, get_or, sym, refl, ap, ◌∙◌, true≢false, rules, arith}
+use Rattle.std.specs.Prelude.{unwrap_or, not, length, nat_lt, Some, None}
+use Rattle.std.specs.List.{position_or_len}
 use Rattle.std.proofs.lemmas.List.{length-take-le, set_at, take_more, append_assoc}
-use Rattle.keys.specs.declared.word.FlightWord.{FlightWord}
-use Rattle.keys.specs.Same.{same_word}
+use Rattle.std.proofs.lemmas.List.Sums.{prefix_len-le-length}
+use Rattle.std.proofs.lemmas.List.Recursion.{is_position_or_len}
 use Rattle.std.proofs.lemmas.Bool.Decides.{nat_tests}
-use Rattle.std.proofs.lemmas.Cmp.{same_from_slice_cmp}
-use Rattle.std.specs.Cmp.Lexicographic.{slice_cmp}
-use Rattle.std.specs.Ordering.{MatchOrdering, is_lt, is_gt, nat_cmp}
-use Rattle.keys.specs.Words.{less_word, word_byte, first_wrong, FirstWrong}
-use Rattle.keys.specs.Values.{bytes_of}
-use Rattle.keys.specs.Totals.{word_total}
-use Rattle.keys.proofs.Ranks.{ranked_map}
+use Rattle.std.proofs.lemmas.Grind.{common_steps}
+use Rattle.keys.specs.Words.{word_byte, wrong_place, first_wrong, FirstWrong}
 
-before : (xs ys : List ℕ) (o : Ordering) → o ≡ slice_cmp nat_cmp xs ys → is_lt o ≡ less_word xs ys
-before = same_from_slice_cmp nat_cmp is_lt less_word refl (λ _ _. refl) (λ _ _. refl) (λ x y xs ys o h. grind (arith, nat_tests))
+-- the first place at which a byte is none of a flight word
+wrong_first : (bs : List ℕ) → first_wrong bs ≡ position_or_len (λ b. not (word_byte b)) bs
+wrong_first = is_position_or_len first_wrong (λ b. not (word_byte b)) refl (λ b bs. search rules)
 
-after : (xs ys : List ℕ) (o : Ordering) → o ≡ slice_cmp nat_cmp xs ys → is_gt o ≡ less_word ys xs
-after = same_from_slice_cmp nat_cmp is_gt (λ xs ys. less_word ys xs) refl (λ _ _. refl) (λ _ _. refl) (λ x y xs ys o h. grind (arith, nat_tests))
+-- told as a place or none
+chosen : (n most : ℕ) → n ≤ most → unwrap_or (cond (nat_lt n most) (Some n) None) most ≡ n
+chosen n most h = grind (arith, nat_tests, common_steps)
 
-pub word_ranked : (xs ys : List ℕ) (o : Ordering) → o ≡ slice_cmp nat_cmp xs ys → MatchOrdering o (less_word xs ys ≡ true) (xs ≡ ys) (less_word ys xs ≡ true)
-word_ranked xs ys Less h = sym (before xs ys Less h)
-word_ranked xs ys Equal h = word_total.connected xs ys (sym (before xs ys Equal h)) (sym (after xs ys Equal h))
-word_ranked xs ys Greater h = sym (after xs ys Greater h)
-
--- the same, of two values of the kind whose bytes were compared
-pub word_compares : (x y : FlightWord) (u v : List ℕ) (o : Ordering) → u ≡ bytes_of x → v ≡ bytes_of y → o ≡ slice_cmp nat_cmp u v
-    → MatchOrdering o (less_word (bytes_of x) (bytes_of y) ≡ true) (x ≡ y) (less_word (bytes_of y) (bytes_of x) ≡ true)
-word_compares x y u v o e f h =
-    ranked_map o (λ l. l) (same_word x y) (λ l. l)
-    (word_ranked (bytes_of x) (bytes_of y) o (h ∙ ap (λ (a : List ℕ). slice_cmp nat_cmp a v) e ∙ ap (λ (b : List ℕ). slice_cmp nat_cmp (bytes_of x) b) f))
-
--- one more byte of a word before the zeros
-pub fill_more : (w : List ℕ) (i : ℕ) → i < length w → length w ≤ 8 → set (take i w ++ replicate (8 - i) 0) i (get_or w i 0) ≡ take (i + 1) w ++ replicate (8 - (i + 1)) 0
-fill_more w i h l =
-    let m = 8 - (i + 1) in
-    let e : 8 - i ≡ suc m = omega arith in
-    let p : length (take i w) ≡ i = length-take-le i w (omega arith) in
-    let s = set_at (take i w) 0 (replicate m 0) (get_or w i 0) i p in
-    let t = take_more w i 0 h in
-    let a = append_assoc (take i w) (get_or w i 0 ∷ []) (replicate m 0) in
-    rw (e, t) (s ∙ sym a)
+pub wrong_value : (bs : List ℕ) → unwrap_or (wrong_place bs) (length bs) ≡ first_wrong bs
+wrong_value bs = chosen (position_or_len (λ b. not (word_byte b)) bs) (length bs) (prefix_len-le-length _ bs) ∙ sym (wrong_first bs)
 
 -- the first wrong place is the only one that its name fits
 first_at : (b : ℕ) (bs : List ℕ) (place : ℕ) (t : Bool) → word_byte b ≡ t → FirstWrong (b ∷ bs) place →
@@ -66,3 +45,14 @@ first_more b bs false e h = record { within = omega arith; before = λ i l. absu
 pub first_is : (bs : List ℕ) → FirstWrong bs (first_wrong bs)
 first_is [] = record { within = omega arith; before = λ i l. absurd (omega arith); found = λ l. absurd (omega arith) }
 first_is (b ∷ bs) = first_more b bs (word_byte b) refl (first_is bs)
+
+-- one more byte of a word before the zeros
+pub fill_more : (w : List ℕ) (i : ℕ) → i < length w → length w ≤ 8 → set (take i w ++ replicate (8 - i) 0) i (get_or w i 0) ≡ take (i + 1) w ++ replicate (8 - (i + 1)) 0
+fill_more w i h l =
+    let m = 8 - (i + 1) in
+    let e : 8 - i ≡ suc m = omega arith in
+    let p : length (take i w) ≡ i = length-take-le i w (omega arith) in
+    let s = set_at (take i w) 0 (replicate m 0) (get_or w i 0) i p in
+    let t = take_more w i 0 h in
+    let a = append_assoc (take i w) (get_or w i 0 ∷ []) (replicate m 0) in
+    rw (e, t) (s ∙ sym a)

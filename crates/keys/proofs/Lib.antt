@@ -1,3 +1,2 @@
-pub mod Ranks
 pub mod Lexical
 pub mod Making

@@ -1,15 +1,14 @@
--- A key is the one that its parts make, so what `make` answers is known from the parts.
-use Rattle.std.proofs.Common.{◌≡◌, ℕ, ◌+◌, ◌-◌, ◌*◌, ◌/◌, ◌%◌, ◌^◌, ◌<◌, Bool, true, false, ◌&&◌, eqb, leb, List, length, Some, Ok, sym, refl, ap, ◌∙◌, true≢false, arith, eq-eqb, le-leb}
+-- A key is the one that its parts make, so what is answered is known from the parts.
+use Rattle.std.proofs.Common.{◌≡◌, ℕ, ◌+◌, ◌-◌, ◌*◌, ◌/◌, ◌%◌, ◌^◌, ◌<◌, Bool, true, false, leb, List, ◌++◌, length, drop, replicate, Some, sym, refl, ap, ◌∙◌, true≢false, arith, rules}
 use Rattle.std.proofs.lemmas.Nat.{shr_split, shr_high, mod_below, pow_pos}
-use Rattle.std.proofs.lemmas.Bool.{and_from}
-use Rattle.std.proofs.lemmas.List.{length-take-le}
+use Rattle.std.proofs.lemmas.List.{drop-replicate}
 use Rattle.keys.specs.declared.event.EventKind.{EventKind}
 use Rattle.keys.specs.declared.prefix.Prefix.{Prefix}
 use Rattle.keys.specs.declared.word.FlightWord.{FlightWord}
-use Rattle.keys.specs.Prefixes.{low_bits, first_bits, is_prefix}
-use Rattle.keys.specs.Words.{first_wrong, is_word}
-use Rattle.keys.specs.Values.{when_true, asked, event_of, prefix_of, containing_of, OnlyContaining, word_of, bytes_of, zeroed_word}
-use Rattle.keys.specs.Same.{same_event, same_prefix, same_word}
+use Rattle.keys.specs.Prefixes.{first_bits, is_prefix}
+use Rattle.keys.specs.Words.{is_word}
+use Rattle.keys.specs.Values.{when_true, event_of, prefix_of, containing_of, OnlyContaining, word_of, bytes_of, zeroed, zeroed_word}
+use Rattle.keys.specs.Same.{same_event, same_prefix, same_word, word_length}
 
 -- a value whose test passes
 given_true : {A : Type 0} (b : Bool) (f : b ≡ true → A) (k : A) → b ≡ true → ((p : b ≡ true) → k ≡ f p) → Some k ≡ when_true b f
@@ -17,16 +16,13 @@ given_true true f k h e = ap Some (e refl)
 given_true false f k h e = absurd (true≢false (sym h))
 
 pub event_made : (k : EventKind) → Some k ≡ event_of k.number
-event_made k = given_true (leb k.number 63) _ k (le-leb k.number 63 k.small) (λ p. same_event k _ refl)
+event_made k = given_true (leb k.number 63) _ k (search rules) (λ p. same_event k _ refl)
 
 pub prefix_made : (k : Prefix) → Some k ≡ prefix_of k.bits k.address
-prefix_made k =
-    given_true (is_prefix k.bits k.address) _ k
-    (and_from (leb k.bits 32) (eqb (low_bits k.bits k.address) 0) (le-leb k.bits 32 k.whole) (eq-eqb (low_bits k.bits k.address) 0 k.clear))
-    (λ p. same_prefix k _ refl refl)
+prefix_made k = given_true (is_prefix k.bits k.address) _ k (search rules) (λ p. same_prefix k _ refl refl)
 
 pub prefix_containing : (address : ℕ) (k : Prefix) → k.address ≡ first_bits k.bits address → Some k ≡ containing_of k.bits address
-prefix_containing address k e = given_true (leb k.bits 32) _ k (le-leb k.bits 32 k.whole) (λ p. same_prefix k _ e refl)
+prefix_containing address k e = given_true (leb k.bits 32) _ k (search rules) (λ p. same_prefix k _ e refl)
 
 -- whatever prefix of the same length contains the address has the same first bits
 pub only_containing : (address : ℕ) (k : Prefix) → k.address ≡ first_bits k.bits address → OnlyContaining k.bits address k
@@ -49,26 +45,15 @@ only_containing address k e =
           same_prefix q k found same;
     }
 
-pub word_length : (k : FlightWord) → length (bytes_of k) ≡ k.len
-word_length k = length-take-le k.len k.bytes (omega arith)
-
 word_is : (k : FlightWord) → is_word (bytes_of k) ≡ true
-word_is k =
-    let n = word_length k in
-    let w : List ℕ = bytes_of k in
-    and_from (leb 1 (length w) && leb (length w) 8) (eqb (first_wrong w) (length w))
-    (and_from (leb 1 (length w)) (leb (length w) 8) (le-leb 1 (length w) (omega arith)) (le-leb (length w) 8 (omega arith)))
-    (eq-eqb (first_wrong w) (length w) (omega (arith, k.right)))
+word_is k = let n = word_length k in search (rules, k.right)
 
 pub word_made : (k : FlightWord) → Some k ≡ word_of (bytes_of k)
 word_made k = given_true (is_word (bytes_of k)) _ k (word_is k) (λ p. same_word k _ (sym (zeroed_word (bytes_of k))))
 
--- what `make` answers of the parts of a key
-pub makes_event : (n : ℕ) (k : EventKind) → k.number ≡ n → Ok k ≡ asked (event_of n)
-makes_event n k e = ap asked (event_made k ∙ ap event_of e)
-
-pub makes_prefix : (p address : ℕ) (k : Prefix) → k.bits ≡ p → k.address ≡ address → Ok k ≡ asked (prefix_of p address)
-makes_prefix p address k e f = ap asked (prefix_made k ∙ ap (λ (n : ℕ). prefix_of n k.address) e ∙ ap (prefix_of p) f)
+-- a word written over 8 zeros
+pub over_zeros : (w bs : List ℕ) → bs ≡ w → bs ++ drop (length w) (replicate 8 0) ≡ zeroed w
+over_zeros w bs e = search (rules, drop-replicate {X = ℕ})
 
 pub stores_word : (w : List ℕ) (k : FlightWord) → bytes_of k ≡ w → Some k ≡ word_of w
-stores_word w k e = word_made k ∙ ap word_of e
+stores_word w k e = search (rules, word_made)

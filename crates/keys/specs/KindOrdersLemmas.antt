@@ -1,60 +1,80 @@
--- The order of each kind is total; and what that says of keys that are the same. Idea: an order through a function
--- that tells keys apart is total where the order behind it is.
-use Rattle.std.specs.Prelude.{◌≡◌, ℕ, Bool, true, false, not, ◌&&◌, nat_lt, refl}
-use Rattle.std.proofs.Common.{sym, ap, subst, ◌∙◌, true≢false, arith}
-use Rattle.std.proofs.lemmas.Bool.{and_parts, not-true, ltb-true, ltb-false, lt-ltb, le-ltb}
-use Rattle.keys.specs.declared.held.Held.{Held}
-use Rattle.keys.specs.declared.held.Held.TheVariants.{Real, Dummy}
-use Rattle.keys.specs.Orders.{TotalOrder, same, by_parts}
+-- The order of each kind is total, and `cmp` answers by it; and what that says of keys that are the same. Idea: an
+-- order through a function that tells keys apart is total where the order behind it is. The derived `cmp` of flight
+-- words compares 8 bytes and then the length, which answers as the words' bytes do.
+use Rattle.std.specs.Prelude.{◌≡◌, ◌-◌, Bool, true, false}
+use Rattle.std.specs.Ordering.{MatchOrdering, nat_cmp, ordering_then}
+use Rattle.std.specs.Cmp.Lexicographic.{slice_cmp}
+use Rattle.std.proofs.Common.{ℕ, List, Ordering, Less, Equal, Greater, refl, sym, ap, subst, ◌∙◌, length, arith, rules}
+use Rattle.std.proofs.lemmas.Bool.Decides.{nat_tests}
+use Rattle.keys.specs.declared.word.FlightWord.{FlightWord}
+use Rattle.keys.specs.Orders.{TotalOrder, ComparesBy, same}
 use Rattle.keys.specs.Words.{less_word}
 use Rattle.keys.specs.Values.{bytes_of}
 use Rattle.keys.specs.Helds.{less_held}
 use Rattle.keys.specs.KindOrders.{less_event, less_prefix, less_flight}
-use Rattle.keys.specs.Same.{same_event, same_prefix, same_word}
-use Rattle.keys.specs.Totals.{total, total_by, number_total, numbers_total, word_total}
+use Rattle.keys.specs.Same.{same_event, same_prefix, word_length, word_padded, same_word}
+use Rattle.keys.specs.Totals.{total_by, compares_by, less_word_compares, word_total, padded_compare, word_ranked}
+
+pub event_compares : ComparesBy less_event (λ x y. nat_cmp x.number y.number)
+event_compares = search (rules, same_event)
 
 pub event_total : TotalOrder less_event
-event_total = total_by nat_lt (λ x. x.number) number_total same_event
+event_total = search (rules, same_event)
+
+pub prefix_compares : ComparesBy less_prefix (λ x y. ordering_then (nat_cmp x.address y.address) (nat_cmp x.bits y.bits))
+prefix_compares = search (rules, same_prefix)
 
 pub prefix_total : TotalOrder less_prefix
-prefix_total =
-    total_by (λ (p q : ℕ × ℕ). by_parts nat_lt nat_lt p.0 p.1 q.0 q.1) (λ x. (x.address, x.bits)) numbers_total
-    (λ x y e. same_prefix x y (ap (λ (p : ℕ × ℕ). p.0) e) (ap (λ (p : ℕ × ℕ). p.1) e))
+prefix_total = search (rules, same_prefix)
+
+-- what comes second counts only where the first is equal
+then_tied : (o l : Ordering) → (o ≡ Equal → l ≡ Equal) → ordering_then o l ≡ o
+then_tied o l h = search rules
+
+-- the zeros behind a word and its length change no answer
+cmp_flights : (x y : FlightWord) → ordering_then (slice_cmp nat_cmp x.bytes y.bytes) (nat_cmp x.len y.len) ≡ slice_cmp nat_cmp (bytes_of x) (bytes_of y)
+cmp_flights x y =
+    let m = word_length x in
+    let n = word_length y in
+    let a = word_padded x in
+    let b = word_padded y in
+    let p = padded_compare (bytes_of x) (bytes_of y) (8 - x.len) (8 - y.len) (x.right ∙ sym m) (y.right ∙ sym n) (omega arith) in
+    let z : slice_cmp nat_cmp x.bytes y.bytes ≡ slice_cmp nat_cmp (bytes_of x) (bytes_of y) = cc in
+    ap (λ o. ordering_then o (nat_cmp x.len y.len)) z
+    ∙ then_tied _ _ (λ e. let w = ap length (less_word_compares.same_is (bytes_of x) (bytes_of y) e) in grind (arith, nat_tests))
+
+pub flight_compares : ComparesBy less_flight (λ x y. ordering_then (slice_cmp nat_cmp x.bytes y.bytes) (nat_cmp x.len y.len))
+flight_compares = subst (ComparesBy less_flight) (λ i x y. sym (cmp_flights x y) i) (compares_by bytes_of less_word_compares same_word)
+
+words_tell : (x y : FlightWord) (o : Ordering) → MatchOrdering o (less_flight x y ≡ true) (bytes_of x ≡ bytes_of y) (less_flight y x ≡ true)
+    → MatchOrdering o (less_flight x y ≡ true) (x ≡ y) (less_flight y x ≡ true)
+words_tell x y Less h = h
+words_tell x y Equal h = same_word x y h
+words_tell x y Greater h = h
+
+-- what is known of two flight words by what `cmp` answers of their bytes; and by what the derived `cmp` answers
+pub word_compares : (x y : FlightWord) (u v : List ℕ) (o : Ordering) → u ≡ bytes_of x → v ≡ bytes_of y → o ≡ slice_cmp nat_cmp u v
+    → MatchOrdering o (less_word (bytes_of x) (bytes_of y) ≡ true) (x ≡ y) (less_word (bytes_of y) (bytes_of x) ≡ true)
+word_compares x y u v o e f h =
+    words_tell x y o (word_ranked (bytes_of x) (bytes_of y) o (h ∙ ap (λ (a : List ℕ). slice_cmp nat_cmp a v) e ∙ ap (λ (b : List ℕ). slice_cmp nat_cmp (bytes_of x) b) f))
+
+pub flight_ranked : (x y : FlightWord) (o : Ordering) → o ≡ ordering_then (slice_cmp nat_cmp x.bytes y.bytes) (nat_cmp x.len y.len)
+    → MatchOrdering o (less_flight x y ≡ true) (x ≡ y) (less_flight y x ≡ true)
+flight_ranked x y o h = word_compares x y (bytes_of x) (bytes_of y) o refl refl (h ∙ cmp_flights x y)
 
 pub flight_total : TotalOrder less_flight
 flight_total = total_by less_word bytes_of word_total same_word
 
 module _ {K : Type 0} (less : K → K → Bool) (order : TotalOrder less) where
   pub not_both : (x y : K) → less x y ≡ true → less y x ≡ false
-  not_both x y h = order.exactly_one x y (λ e. true≢false (sym h ∙ subst (λ (z : K). less x z ≡ false) e (order.irreflexive x))) ∙ ap not h
+  not_both x y h = search rules
 
   pub same_self : (x : K) → same less x x ≡ true
-  same_self x = ap (λ (b : Bool). not b && not b) (order.irreflexive x)
+  same_self x = search rules
 
   pub same_equal : (x y : K) → same less x y ≡ true → x ≡ y
-  same_equal x y h =
-      let p = and_parts (not (less x y)) (not (less y x)) h in
-      order.connected x y (not-true (less x y) p.0) (not-true (less y x) p.1)
-
-  held_irreflexive : (x : Held K) → less_held less x x ≡ false
-  held_irreflexive (Real x) = order.irreflexive x
-  held_irreflexive (Dummy i) = le-ltb i i (omega arith)
-
-  held_connected : (x y : Held K) → less_held less x y ≡ false → less_held less y x ≡ false → x ≡ y
-  held_connected (Real x) (Real y) p q = ap Real (order.connected x y p q)
-  held_connected (Real x) (Dummy j) p q = absurd (true≢false p)
-  held_connected (Dummy i) (Real y) p q = absurd (true≢false q)
-  held_connected (Dummy i) (Dummy j) p q = ap Dummy (omega (arith, ltb-false i j p, ltb-false j i q))
-
-  held_transitive : (x y z : Held K) → less_held less x y ≡ true → less_held less y z ≡ true → less_held less x z ≡ true
-  held_transitive (Real x) (Real y) (Real z) p q = order.transitive x y z p q
-  held_transitive (Real x) (Real y) (Dummy j) p q = refl
-  held_transitive (Real x) (Dummy i) (Real z) p q = absurd (true≢false (sym q))
-  held_transitive (Real x) (Dummy i) (Dummy j) p q = refl
-  held_transitive (Dummy i) (Real y) z p q = absurd (true≢false (sym p))
-  held_transitive (Dummy i) (Dummy j) (Real z) p q = absurd (true≢false (sym q))
-  held_transitive (Dummy i) (Dummy j) (Dummy m) p q = lt-ltb i m (omega (arith, ltb-true i j p, ltb-true j m q))
+  same_equal x y h = search rules
 
   -- real keys in their order, then the dummies
   pub held_total : TotalOrder (less_held less)
-  held_total = total (less_held less) held_irreflexive held_connected held_transitive
+  held_total = search rules

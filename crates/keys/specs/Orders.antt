@@ -1,5 +1,8 @@
--- Total orders as tests, and the order of two parts.
+-- Total orders as tests, what `cmp` answers by one, and the order of two parts.
 use Rattle.std.specs.Prelude.{◌≡◌, Bool, true, false, cond, not, ◌&&◌, ◌≢◌}
+use Rattle.std.specs.Ordering.{is_lt}
+use Rattle.std.specs.declared.cmp.Ordering.{Ordering}
+use Rattle.std.specs.declared.cmp.Ordering.TheVariants.{Equal}
 
 -- Two keys are the same where neither is less. `less` is a total order if
 --   equal keys are the same (irreflexive), and no others are (connected);
@@ -10,6 +13,11 @@ pub record TotalOrder {K : Type 0} (less : K → K → Bool) : Type 0 where
   pub connected : (x y : K) → less x y ≡ false → less y x ≡ false → x ≡ y
   pub exactly_one : (x y : K) → (x ≢ y) → less y x ≡ not (less x y)
   pub transitive : (x y z : K) → less x y ≡ true → less y z ≡ true → less x z ≡ true
+
+-- what `cmp` answers of two keys: less where `less` holds, and equal of one key alone
+pub record ComparesBy {K : Type 0} (less : K → K → Bool) (cmp : K → K → Ordering) : Type 0 where
+  pub less_is : (x y : K) → less x y ≡ is_lt (cmp x y)
+  pub same_is : (x y : K) → cmp x y ≡ Equal → x ≡ y
 
 -- whether two keys are the same: neither is less
 abbrev pub same : {K : Type 0} → (K → K → Bool) → K → K → Bool

@@ -1,5 +1,5 @@
 -- Keys with equal fields are equal. Idea: a ghost field is a fact with at most one proof.
-use Rattle.std.specs.Prelude.{◌≡◌, ℕ, ◌-◌, ◌≤◌, length, take, drop, replicate}
+use Rattle.std.specs.Prelude.{◌≡◌, ℕ, ◌-◌, ◌≤◌, ◌++◌, length, take, drop, replicate}
 use Rattle.std.proofs.Common.{sym, ap, ◌∙◌, arith}
 use mathlib.Core.HLevel.{is_prop→PathP}
 use Rattle.std.proofs.Math.Bridge.{le_prop}
@@ -7,6 +7,7 @@ use denote.Struct.Props.{props}
 use Rattle.std.proofs.lemmas.List.{take-append-drop, length-take-le}
 use Rattle.keys.specs.Prefixes.{low_bits}
 use Rattle.keys.specs.Words.{first_wrong}
+use Rattle.keys.specs.Values.{bytes_of}
 use Rattle.keys.specs.declared.event.EventKind.{EventKind}
 use Rattle.keys.specs.declared.prefix.Prefix.{Prefix}
 use Rattle.keys.specs.declared.word.FlightWord.{FlightWord}
@@ -33,16 +34,18 @@ fields x y a b j = record {
   padded = is_prop→PathP (λ k. drop (b k) (a k) ≡ replicate (8 - b k) 0) (λ k. hlevel props) x.padded y.padded j;
 }
 
+pub word_length : (x : FlightWord) → length (bytes_of x) ≡ x.len
+word_length x = length-take-le x.len x.bytes (omega arith)
+
 -- the bytes of a word, with its zeros, are its 8 bytes
+pub word_padded : (x : FlightWord) → x.bytes ≡ bytes_of x ++ replicate (8 - x.len) 0
+word_padded x = sym (take-append-drop x.len x.bytes) ∙ ap (λ zeros. bytes_of x ++ zeros) x.padded
+
 pub same_word : (x y : FlightWord) → take x.len x.bytes ≡ take y.len y.bytes → x ≡ y
 same_word x y e =
-    let m : length (take x.len x.bytes) ≡ x.len = length-take-le x.len x.bytes (omega arith) in
-    let n : length (take y.len y.bytes) ≡ y.len = length-take-le y.len y.bytes (omega arith) in
-    let b : x.len ≡ y.len = sym m ∙ ap length e ∙ n in
-    let f = take-append-drop x.len x.bytes in
-    let g = take-append-drop y.len y.bytes in
+    let b : x.len ≡ y.len = sym (word_length x) ∙ ap length e ∙ word_length y in
     let r = ap (λ (k : ℕ). replicate {A = ℕ} (8 - k) 0) b in
-    let p = x.padded in
-    let q = y.padded in
+    let p = word_padded x in
+    let q = word_padded y in
     let a : x.bytes ≡ y.bytes = cc in
     fields x y a b

@@ -1,69 +1,91 @@
--- Total orders: of numbers, by parts, through a function that tells values apart, of words. Idea: three facts give
--- the fourth, so each order shows only those three.
-use Rattle.std.specs.Prelude.{◌≡◌, ℕ, Bool, true, false, not, List, [], ◌∷◌, ◌≢◌, nat_lt, refl}
-use Rattle.std.proofs.Common.{sym, ◌∙◌, true≢false, arith, rules}
+-- Total orders: of numbers, by parts, through a function that tells values apart, of words; and the comparisons that
+-- answer by them. Idea: std's law makes `cmp` a total order, so a test that says where `cmp` answers less is one too.
+use Rattle.std.specs.Prelude.{◌≡◌, ◌≢◌, not, ℕ, zero, suc, ◌+◌, Bool, true, false, cond, List, [], ◌∷◌, ◌++◌, length, replicate, nat_lt, refl}
+use Rattle.std.specs.Ordering.{MatchOrdering, is_lt, is_gt, ordering_then, nat_cmp}
+use Rattle.std.specs.Cmp.{IsTotalOrder, tied_itself}
+use Rattle.std.specs.Cmp.Lexicographic.{slice_cmp}
+use Rattle.std.proofs.Common.{Ordering, Equal, sym, ap, ◌∙◌, subst, arith, rules}
 use Rattle.std.proofs.lemmas.Bool.Decides.{nat_tests}
-use Rattle.keys.specs.Orders.{TotalOrder, by_parts}
-use Rattle.keys.specs.Words.{less_word}
+use Rattle.std.proofs.lemmas.Cmp.{same_from_slice_cmp, nat_list_cmp_total}
+use Rattle.keys.specs.Orders.{TotalOrder, ComparesBy, by_parts}
+use Rattle.keys.specs.Words.{less_word, word_byte, first_wrong}
 
-module _ {K : Type 0} (less : K → K → Bool) (irreflexive : (x : K) → less x x ≡ false)
+-- three facts give the fourth: of two different values exactly one is less
+one_at : {K : Type 0} (less : K → K → Bool) (irreflexive : (x : K) → less x x ≡ false)
     (connected : (x y : K) → less x y ≡ false → less y x ≡ false → x ≡ y)
-    (transitive : (x y z : K) → less x y ≡ true → less y z ≡ true → less x z ≡ true) where
-  one_at : (x y : K) → (x ≢ y) → (a b : Bool) → less x y ≡ a → less y x ≡ b → b ≡ not a
-  one_at x y apart true true p q = absurd (true≢false (sym (transitive x y x p q) ∙ irreflexive x))
-  one_at x y apart true false p q = refl
-  one_at x y apart false true p q = refl
-  one_at x y apart false false p q = absurd (apart (connected x y p q))
+    (transitive : (x y z : K) → less x y ≡ true → less y z ≡ true → less x z ≡ true) →
+    (x y : K) → (x ≢ y) → (a b : Bool) → less x y ≡ a → less y x ≡ b → b ≡ not a
+one_at less irreflexive connected transitive x y apart a b p q = search rules
 
-  pub total : TotalOrder less
-  total = record {
-    irreflexive = irreflexive;
-    connected = connected;
-    exactly_one = λ x y apart. one_at x y apart (less x y) (less y x) refl refl;
-    transitive = transitive;
-  }
+pub total : {K : Type 0} (less : K → K → Bool) (irreflexive : (x : K) → less x x ≡ false)
+    (connected : (x y : K) → less x y ≡ false → less y x ≡ false → x ≡ y)
+    (transitive : (x y z : K) → less x y ≡ true → less y z ≡ true → less x z ≡ true) → TotalOrder less
+total less irreflexive connected transitive = search rules
 
 pub number_total : TotalOrder nat_lt
-number_total = total nat_lt (λ x. search rules) (λ x y p q. search rules) (λ x y z p q. search rules)
+number_total = search rules
 
 -- an order through a function that tells values apart
 pub total_by : {K L : Type 0} (less : L → L → Bool) (f : K → L) → TotalOrder less → ((x y : K) → f x ≡ f y → x ≡ y) → TotalOrder (λ (x y : K). less (f x) (f y))
-total_by less f s apart =
-    total (λ x y. less (f x) (f y)) (λ x. s.irreflexive (f x)) (λ x y p q. apart x y (s.connected (f x) (f y) p q))
-    (λ x y z. s.transitive (f x) (f y) (f z))
+total_by less f s apart = search rules
 
 -- two numbers: by the first, then by the second
 pub numbers_total : TotalOrder (λ (p q : ℕ × ℕ). by_parts nat_lt nat_lt p.0 p.1 q.0 q.1)
-numbers_total =
-    total (λ p q. by_parts nat_lt nat_lt p.0 p.1 q.0 q.1) (λ p. grind (arith, nat_tests))
-    (λ p q h k.
-    let a : p.0 ≡ q.0 = grind (arith, nat_tests) in
-    let b : p.1 ≡ q.1 = grind (arith, nat_tests) in
-    λ i. (a i, b i))
-    (λ p q r h k. grind (arith, nat_tests))
+numbers_total = search rules
 
-word_irreflexive : (xs : List ℕ) → less_word xs xs ≡ false
-word_irreflexive [] = refl
-word_irreflexive (x ∷ xs) = let h = word_irreflexive xs in grind (arith, nat_tests)
+-- the order by which a total `cmp` answers
+pub total_by_cmp : {K : Type 0} {less : K → K → Bool} {R : K → K → Ordering} → IsTotalOrder R → ComparesBy less R → TotalOrder less
+total_by_cmp o c = search rules
 
-word_transitive : (xs ys zs : List ℕ) → less_word xs ys ≡ true → less_word ys zs ≡ true → less_word xs zs ≡ true
-word_transitive [] [] zs p q = let z : ◌≡◌ {A = Bool} true false = cc in grind arith
-word_transitive [] (y ∷ ys) [] p q = q
-word_transitive [] (y ∷ ys) (z ∷ zs) p q = refl
-word_transitive (x ∷ xs) [] zs p q = let z : ◌≡◌ {A = Bool} true false = cc in grind arith
-word_transitive (x ∷ xs) (y ∷ ys) [] p q = q
-word_transitive (x ∷ xs) (y ∷ ys) (z ∷ zs) p q = let h = word_transitive xs ys zs in grind (arith, nat_tests)
+-- what is known of two values by the answer of such a `cmp`
+pub ranked_by : {K : Type 0} {less : K → K → Bool} {R : K → K → Ordering} → IsTotalOrder R → ComparesBy less R
+    → (x y : K) (o : Ordering) → o ≡ R x y → MatchOrdering o (less x y ≡ true) (x ≡ y) (less y x ≡ true)
+ranked_by o c x y r h = search rules
 
-word_connected : (xs ys : List ℕ) → less_word xs ys ≡ false → less_word ys xs ≡ false → xs ≡ ys
-word_connected [] [] p q = refl
-word_connected [] (y ∷ ys) p q = grind arith
-word_connected (x ∷ xs) [] p q = grind arith
-word_connected (x ∷ xs) (y ∷ ys) p q =
-    let a : x ≡ y = grind (arith, nat_tests) in
-    let b : less_word xs ys ≡ false = grind (arith, nat_tests) in
-    let d : less_word ys xs ≡ false = grind (arith, nat_tests) in
-    let e : xs ≡ ys = word_connected xs ys b d in
-    cc
+-- a comparison through a function that tells values apart
+pub compares_by : {K L : Type 0} {less : L → L → Bool} {R : L → L → Ordering} (f : K → L) → ComparesBy less R → ((x y : K) → f x ≡ f y → x ≡ y) → ComparesBy (λ (x y : K). less (f x) (f y)) (λ (x y : K). R (f x) (f y))
+compares_by f c apart = search rules
+
+words_equal : (xs ys : List ℕ) → slice_cmp nat_cmp xs ys ≡ Equal → xs ≡ ys
+words_equal [] [] e = refl
+words_equal [] (y ∷ ys) e = cc
+words_equal (x ∷ xs) [] e = cc
+words_equal (x ∷ xs) (y ∷ ys) e = let h = words_equal xs ys in grind (arith, nat_tests)
+
+pub less_word_compares : ComparesBy less_word (slice_cmp nat_cmp)
+less_word_compares = record {
+  less_is = λ xs ys. sym (same_from_slice_cmp nat_cmp is_lt less_word refl (λ _ _. refl) (λ _ _. refl) (λ x y xs ys o h. grind (arith, nat_tests)) xs ys _ refl);
+  same_is = words_equal;
+}
+
+-- what is known of two words by the answer of `cmp`
+pub before : (xs ys : List ℕ) (o : Ordering) → o ≡ slice_cmp nat_cmp xs ys → is_lt o ≡ less_word xs ys
+before xs ys o h = ap is_lt h ∙ sym (less_word_compares.less_is xs ys)
+
+pub word_ranked : (xs ys : List ℕ) (o : Ordering) → o ≡ slice_cmp nat_cmp xs ys → MatchOrdering o (less_word xs ys ≡ true) (xs ≡ ys) (less_word ys xs ≡ true)
+word_ranked = ranked_by nat_list_cmp_total less_word_compares
+
+pub after : (xs ys : List ℕ) (o : Ordering) → o ≡ slice_cmp nat_cmp xs ys → is_gt o ≡ less_word ys xs
+after = same_from_slice_cmp nat_cmp is_gt (λ xs ys. less_word ys xs) refl (λ _ _. refl) (λ _ _. refl) (λ x y xs ys o h. grind (arith, nat_tests))
 
 pub word_total : TotalOrder less_word
-word_total = total less_word word_irreflexive word_connected word_transitive
+word_total = total_by_cmp nat_list_cmp_total less_word_compares
+
+-- the first byte of a word is one, and so are the rest
+word_head : (b : Bool) (m n : ℕ) → cond b (suc m) 0 ≡ suc n → (b ≡ true) × (m ≡ n)
+word_head true m n e = (refl, omega arith)
+word_head false m n e = absurd (omega arith)
+
+-- zeros behind two words change no answer, since every byte of a word is above 0
+pub padded_compare : (xs ys : List ℕ) (m n : ℕ) → first_wrong xs ≡ length xs → first_wrong ys ≡ length ys → length xs + m ≡ length ys + n
+    → slice_cmp nat_cmp (xs ++ replicate m 0) (ys ++ replicate n 0) ≡ slice_cmp nat_cmp xs ys
+padded_compare [] [] m n p q e =
+    let k : m ≡ n = omega arith in
+    subst (λ i. slice_cmp nat_cmp (replicate m 0) (replicate i 0) ≡ Equal) k (tied_itself nat_list_cmp_total (replicate m 0))
+padded_compare [] (y ∷ ys) zero n p q e = absurd (omega arith)
+padded_compare [] (y ∷ ys) (suc m) n p q e = let h = word_head (word_byte y) _ _ q in grind (arith, nat_tests)
+padded_compare (x ∷ xs) [] m zero p q e = absurd (omega arith)
+padded_compare (x ∷ xs) [] m (suc n) p q e = let h = word_head (word_byte x) _ _ p in grind (arith, nat_tests)
+padded_compare (x ∷ xs) (y ∷ ys) m n p q e =
+    ap (ordering_then (nat_cmp x y))
+    (padded_compare xs ys m n (word_head (word_byte x) _ _ p).1 (word_head (word_byte y) _ _ q).1 (omega arith))

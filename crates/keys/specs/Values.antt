@@ -1,4 +1,4 @@
--- Keys as values: which numbers, bits and bytes make one, and what `make` answers.
+-- Keys as values: which numbers, bits and bytes make one, and what making one answers.
 use Rattle.std.specs.Prelude.{◌≡◌, ℕ, ◌+◌, ◌-◌, ◌/◌, ◌^◌, ◌<◌, ◌≤◌, Bool, true, false, ◌&&◌, List, ◌++◌, length, take, drop, replicate, Some, None, Ok, Err, Option, Result, ◌==◌, nat_le, refl}
 use Rattle.std.proofs.Common.{ap, ◌∙◌, add-zero, arith, leb-true, eqb-true}
 use Rattle.std.proofs.lemmas.List.{length-append, length-replicate, take_at, drop_at}
@@ -17,7 +17,7 @@ abbrev pub when_true : {A : Type 0} (b : Bool) → (b ≡ true → A) → Option
 when_true true f = Some (f refl)
 when_true false f = None
 
--- what `make` answers: the key, or refusal 1
+-- what making a key answers: the key, or refusal 1
 abbrev pub asked : {A : Type 0} → Option A → Result A Refusal
 asked (Some k) = Ok k
 asked None = Err OutOfRange

@@ -1,5 +1,5 @@
 -- Flight words as lists of bytes: 1 to 8 bytes, each 0x20 to 0x5F; and their order.
-use Rattle.std.specs.Prelude.{◌≡◌, ℕ, suc, ◌<◌, ◌≤◌, Bool, true, false, cond, ◌&&◌, List, [], ◌∷◌, length, ◌==◌, nat_le, nat_lt, slice_index}
+use Rattle.std.specs.Prelude.{Option, not, position, ◌≡◌, ℕ, suc, ◌<◌, ◌≤◌, Bool, true, false, cond, ◌&&◌, List, [], ◌∷◌, length, ◌==◌, nat_le, nat_lt, slice_index}
 
 -- a byte of a flight word
 abbrev pub word_byte : ℕ → Bool
@@ -9,6 +9,10 @@ word_byte b = nat_le 0x20 b && nat_le b 0x5F
 abbrev pub first_wrong : List ℕ → ℕ
 first_wrong [] = 0
 first_wrong (b ∷ bs) = cond (word_byte b) (suc (first_wrong bs)) 0
+
+-- the same place, or none
+abbrev pub wrong_place : List ℕ → Option ℕ
+wrong_place bs = position (λ b. not (word_byte b)) bs
 
 -- 1 to 8 bytes, none of them wrong
 abbrev pub is_word : List ℕ → Bool

@@ -3,9 +3,9 @@ ghost use Rattle.keys.specs.Helds.{less_held};
 ghost use Rattle.std.proofs.Common.{rules};
 
 use crate::kind::Kind;
-use std::cmp::Ordering;
 
-#[derive(Clone, Copy)]
+/// No `Result`, since a dummy is a key and no error.
+#[derive(Clone, Copy, Debug, PartialEq, Eq, PartialOrd, Ord, Hash)]
 pub enum Held<K> {
     Real(K),
     Dummy(u32),
@@ -14,14 +14,7 @@ pub enum Held<K> {
 impl<K: Kind> Kind for Held<K> {
     ghost less = { less_held K.Kind.less };
 
-    ghost order = { Prim.search rules };
+    ghost matches_cmp = { Prim.search rules };
 
-    fn compare(&self, other: &Held<K>) -> Ordering {
-        match (*self, *other) {
-            (Held::Real(a), Held::Real(b)) => a.compare(&b),
-            (Held::Real(_), Held::Dummy(_)) => Ordering::Less,
-            (Held::Dummy(_), Held::Real(_)) => Ordering::Greater,
-            (Held::Dummy(i), Held::Dummy(j)) => i.compare(&j),
-        }
-    }
+    ghost order = { Prim.search rules };
 }

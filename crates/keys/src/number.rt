@@ -3,14 +3,11 @@ ghost use Rattle.std.specs.Prelude.{nat_lt};
 ghost use Rattle.std.proofs.Common.{rules};
 
 use crate::kind::Kind;
-use std::cmp::Ordering;
 
 impl Kind for u32 {
     ghost less = { nat_lt };
 
-    ghost order = { Prim.search rules };
+    ghost matches_cmp = { Prim.search rules };
 
-    fn compare(&self, other: &u32) -> Ordering {
-        self.cmp(other)
-    }
+    ghost order = { Prim.search rules };
 }

@@ -3,7 +3,7 @@
 ghost use Rattle.std.specs.Prelude.{◌≡◌};
 ghost use Rattle.keys.specs.Refusals.{number_of};
 
-#[derive(Clone, Copy, Debug)]
+#[derive(Clone, Copy, Debug, PartialEq, Eq, Hash)]
 pub enum Refusal {
     OutOfRange = 1,
     FewCells = 2,
@@ -23,6 +23,7 @@ pub enum Refusal {
 }
 
 impl Refusal {
+    /// No `From`, since `u8::from` would not show which number of a refusal is meant.
     pub fn number(self) -> u8
         ensures { result ≡ number_of self }
     {

@@ -1,5 +1,5 @@
 //! A flight word: 1 to 8 bytes, each 0x20 to 0x5F. `bytes` tells which bytes make one, `methods` makes and reads one,
-//! `order` compares.
+//! `order` tells its order.
 pub mod bytes;
 pub mod methods;
 pub mod order;
@@ -7,8 +7,9 @@ pub mod order;
 ghost use Rattle.std.specs.Prelude.{◌≡◌, ◌-◌, ◌≤◌, length, take, drop, replicate};
 ghost use Rattle.keys.specs.Words.{first_wrong};
 
-/// The word stands in the first `len` bytes; those after it are zero, so one word has one value.
-#[derive(Clone, Copy)]
+/// The word stands in the first `len` bytes; those after it are zero, so one word has one value. An array with its
+/// length, since a key is copied, and its memory is fixed.
+#[derive(Clone, Copy, Debug, PartialEq, Eq, PartialOrd, Ord, Hash)]
 pub struct FlightWord {
     bytes: [u8; 8],
     len: u8,

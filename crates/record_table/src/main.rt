@@ -3,13 +3,19 @@
 //! output one byte shorter.
 #![tactic(auto)]
 
+ghost use Rattle.std.specs.Prelude.{◌<◌};
+
+use keys::refusal::Refusal;
 use records::reader::read;
 use records::record::Record;
 use records::writer::write;
 use std::alloc::{AllocError, Global};
 use std::io::{BufRead, BufReader};
 
-fn digit(byte: u8) -> u8 {
+/// The value of an upper-case hexadecimal digit; of any other byte 0, where the library would take lower case too.
+fn digit(byte: u8) -> u8
+    ensures { result < 16 }
+{
     match byte {
         b'0'..=b'9' => byte - b'0',
         b'A'..=b'F' => byte - b'A' + 10,
@@ -17,21 +23,12 @@ fn digit(byte: u8) -> u8 {
     }
 }
 
-/// The bytes that a line of hexadecimal digits stands for.
+/// The bytes that a line of hexadecimal digits stands for; an odd last digit stands for nothing.
 fn bytes_of(heap: Global, line: &str) -> Result<Vec<u8>, AllocError> {
-    let mut bytes = Vec::new(heap);
-    let mut high = None;
-    for digit_byte in line.bytes() {
-        let value = digit(digit_byte) & 0x0F;
-        match high {
-            None => high = Some(value),
-            Some(first) => {
-                bytes.push(((first & 0x0F) << 4) | value)?;
-                high = None;
-            }
-        }
-    }
-    Ok(bytes)
+    line.as_bytes()
+        .chunks_exact(2)
+        .map(|pair| 16 * digit(pair[0]) + digit(pair[1]))
+        .collect(heap)
 }
 
 /// What the writer answers of an output of `room` bytes: the length or the refusal, then the output's bytes.
@@ -42,7 +39,7 @@ fn again(heap: Global, given: &Record<'_>, room: usize) -> Result<String, AllocE
         Err(refusal) => format!(in heap; "refused {} ", refusal.number()),
     }?;
     for byte in out.iter() {
-        let _ = write!(text, "{byte:02X}");
+        write!(text, "{byte:02X}")?;
     }
     Ok(text)
 }
@@ -56,7 +53,7 @@ fn answer(heap: Global, line: &str) -> Result<String, AllocError> {
             format!(in heap; "{n} {whole} {short}")
         }
         Err(fault) => {
-            let number = fault.refusal().number();
+            let number = Refusal::from(fault).number();
             let place = fault.place();
             format!(in heap; "fault {number} {place}")
         }

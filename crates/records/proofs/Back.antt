@@ -1,46 +1,32 @@
 -- What was written reads back. Idea: each field's reader, right after what is before the field, finds the field that was
 -- written there; so field by field the record comes back.
-use Rattle.std.proofs.Common.{◌≡◌, ℕ, ◌+◌, ◌/◌, ◌%◌, Bool, true, ◌&&◌, eqb, ltb, leb, List, [], ◌∷◌, ◌++◌, length, get_or, take, drop, is_some, Some, None, Ok, Option, Result, sym, refl, ap, ◌∙◌, append_assoc, arith}
-use Rattle.std.proofs.lemmas.List.{length-append, get_or-append-add, get_or_at, take_at, drop_at, append-nil}
+use Rattle.std.proofs.Common.{◌≡◌, ℕ, ◌+◌, Bool, true, ◌&&◌, eqb, ltb, leb, List, [], ◌∷◌, ◌++◌, length, get_or, take, drop, is_some, Some, None, Ok, Option, Result, sym, refl, ap, ◌∙◌, append_assoc, arith}
+use Rattle.std.proofs.lemmas.List.{length-append, get_or_at, take_at, drop_at, append-nil}
 use Rattle.std.proofs.lemmas.Bool.{and_parts, le-leb, lt-ltb, ltb-true, cond-true, and_from}
 use Rattle.records.specs.declared.fault.ReadFault.{ReadFault}
 use Rattle.keys.specs.Words.{first_wrong}
-use Rattle.records.specs.Fields.{Got, byte_at, four_at, word_at, join_at, part}
+use Rattle.records.specs.Fields.{Got, number_at, byte_at, four_at, word_at, part}
 use Rattle.records.specs.Values.{RecordValue}
 use Rattle.records.specs.Reading.{next, bit, fields_of, reading}
 use Rattle.records.specs.Writing.{encode_byte, encode_four, encode_word, within, word_fits, in_range, map_of, encode}
-use Rattle.records.proofs.Bits.{join_split, map_small, bit_time, bit_kind, bit_console, bit_source, bit_flight}
+use Rattle.records.proofs.Numbers.{Stored, byte_stored, four_stored}
+use Rattle.records.proofs.Bits.{map_small, bit_time, bit_kind, bit_console, bit_source, bit_flight}
 
 -- a field that is written after `front`
 module _ (bs front post : List ℕ) where
-  byte_back : (present : Bool) (lo hi : ℕ) (f : Option ℕ) → present ≡ is_some f → within lo hi f ≡ true → bs ≡ front ++ (encode_byte f ++ post) →
-      byte_at present lo hi bs (length front) ≡ Ok (f, length (front ++ encode_byte f))
-  byte_back present lo hi (Some v) s w e =
-      let g : get_or bs (length front) 0 ≡ v = ap (λ xs. get_or xs (length front) 0) e ∙ get_or_at front v post 0 (length front) refl in
-      let n : length bs ≡ length front + (1 + length post) = ap length e ∙ length-append front (v ∷ post) ∙ omega arith in
-      let t = lt-ltb (length front) (length bs) (omega arith) in
-      let p : length front + 1 ≡ length (front ++ v ∷ []) = sym (length-append front (v ∷ [])) in
+  number_back : {width : ℕ} {value_at : List ℕ → ℕ → ℕ} {written : Option ℕ → List ℕ} → Stored width value_at written →
+      (present : Bool) (lo hi : ℕ) (f : Option ℕ) → present ≡ is_some f → within lo hi f ≡ true → bs ≡ front ++ (written f ++ post) →
+      number_at width value_at leb present lo hi bs (length front) ≡ Ok (f, length (front ++ written f))
+  number_back {width} {value_at} {written} stored present lo hi (Some v) s w e =
+      let g : value_at bs (length front) ≡ v = ap (λ xs. value_at xs (length front)) e ∙ stored.back front post v in
+      let long = stored.long v in
+      let n : length bs ≡ length front + (width + length post) =
+      ap length e ∙ length-append front (written (Some v) ++ post) ∙ omega (arith, length-append (written (Some v)) post, long) in
+      let t = le-leb (length front + width) (length bs) (omega arith) in
+      let p : length front + width ≡ length (front ++ written (Some v)) = omega (arith, length-append front (written (Some v)), long) in
       rw (s, t, g, w, p)
-  byte_back present lo hi None s w e =
-      let p : length front ≡ length (front ++ []) = ap length (sym (append-nil front)) in
-      rw (s, ← p)
-
-  four_back : (present : Bool) (hi : ℕ) (f : Option ℕ) → present ≡ is_some f → within 0 hi f ≡ true → bs ≡ front ++ (encode_four f ++ post) →
-      four_at present hi bs (length front) ≡ Ok (f, length (front ++ encode_four f))
-  four_back present hi (Some v) s w e =
-      let ys : List ℕ = encode_four (Some v) ++ post in
-      let g0 : get_or bs (length front) 0 ≡ v / 16_777_216 = ap (λ xs. get_or xs (length front) 0) e ∙ get_or_at front _ _ 0 (length front) refl in
-      let g1 : get_or bs (length front + 1) 0 ≡ v / 65_536 % 256 = ap (λ xs. get_or xs (length front + 1) 0) e ∙ get_or-append-add front ys 1 0 in
-      let g2 : get_or bs (length front + 2) 0 ≡ v / 256 % 256 = ap (λ xs. get_or xs (length front + 2) 0) e ∙ get_or-append-add front ys 2 0 in
-      let g3 : get_or bs (length front + 3) 0 ≡ v % 256 = ap (λ xs. get_or xs (length front + 3) 0) e ∙ get_or-append-add front ys 3 0 in
-      let j : join_at bs (length front) ≡ v = rw (g0, g1, g2, g3) (join_split v) in
-      let n : length bs ≡ length front + (4 + length post) = ap length e ∙ length-append front ys ∙ omega arith in
-      let t = le-leb (length front + 4) (length bs) (omega arith) in
-      let p : length front + 4 ≡ length (front ++ encode_four (Some v)) = sym (length-append front (encode_four (Some v))) in
-      let u = (and_parts (leb 0 v) (leb v hi) w).1 in
-      rw (s, t, j, u, p)
-  four_back present hi None s w e =
-      let p : length front ≡ length (front ++ []) = ap length (sym (append-nil front)) in
+  number_back {width} {value_at} {written} stored present lo hi None s w e =
+      let p : length front ≡ length (front ++ written None) = ap length (sym (append-nil front) ∙ ap (λ xs. front ++ xs) (sym stored.absent)) in
       rw (s, ← p)
 
   word_back : (present : Bool) (f : Option (List ℕ)) → present ≡ is_some f → word_fits f ≡ true → bs ≡ front ++ (encode_word f ++ post) →
@@ -101,8 +87,8 @@ reads_back m rest some fits =
     cond-true (leb 1 (map_of m) && leb (map_of m) 31) (fields_of (map_of m) bs) _ (and_from _ _ low high)
     ∙ run_through _ (λ p. byte_at (bit (map_of m) 2) 0 63 bs p) (λ p. byte_at (bit (map_of m) 4) 1 250 bs p) (λ p. four_at (bit (map_of m) 8) 4_294_967_295 bs p) (λ p. word_at (bit (map_of m) 16) bs p)
     m (length f2) (length f3) (length f4) (length f5) (length (encode m))
-    (four_back bs f1 p1 (bit (map_of m) 1) 86_399 m.time (bit_time m) r2.0 e1)
-    (byte_back bs f2 p2 (bit (map_of m) 2) 0 63 m.kind (bit_kind m) r2.1 e2)
-    (byte_back bs f3 p3 (bit (map_of m) 4) 1 250 m.console (bit_console m) r3.1 e3)
-    (four_back bs f4 p4 (bit (map_of m) 8) 4_294_967_295 m.source (bit_source m) r4.1 e4)
+    (number_back bs f1 p1 four_stored (bit (map_of m) 1) 0 86_399 m.time (bit_time m) r2.0 e1)
+    (number_back bs f2 p2 byte_stored (bit (map_of m) 2) 0 63 m.kind (bit_kind m) r2.1 e2)
+    (number_back bs f3 p3 byte_stored (bit (map_of m) 4) 1 250 m.console (bit_console m) r3.1 e3)
+    (number_back bs f4 p4 four_stored (bit (map_of m) 8) 0 4_294_967_295 m.source (bit_source m) r4.1 e4)
     (word_back bs f5 rest (bit (map_of m) 16) m.flight (bit_flight m) r5.1 e5)

@@ -1,16 +1,17 @@
 -- What was read writes back. Idea: a field's reader that answers a field took just the bytes that write it; so field by
 -- field the bytes come back, and the map is the one of the fields.
-use Rattle.std.proofs.Common.{◌≡◌, ℕ, ◌+◌, ◌<◌, ◌≤◌, Bool, true, false, cond, ◌&&◌, eqb, ltb, leb, List, [], ◌∷◌, ◌++◌, length, get_or, take, drop, is_some, Some, Ok, Err, Option, Result, sym, refl, ap, ◌∙◌, subst, append_assoc, arith, length-drop, length-take, take-add}
-use Rattle.std.proofs.lemmas.List.{append-nil, take_more, drop_more}
-use Rattle.std.proofs.lemmas.Bool.{and_parts, and_from, le-leb, lt-ltb, leb-true, ltb-true}
+use Rattle.std.proofs.Common.{◌≡◌, ℕ, ◌+◌, ◌<◌, ◌≤◌, Bool, true, false, cond, ◌&&◌, eqb, ltb, leb, List, [], ◌∷◌, ◌++◌, length, get_or, take, is_some, Some, Ok, Err, Option, Result, sym, refl, ap, ◌∙◌, subst, append_assoc, arith, length-drop, length-take, take-add}
+use Rattle.std.proofs.lemmas.List.{append-nil, take_more}
+use Rattle.std.proofs.lemmas.Bool.{and_parts, and_from, lt-ltb, leb-true, ltb-true}
 use Rattle.records.specs.declared.fault.ReadFault.{ReadFault}
 use Rattle.records.specs.declared.fault.ReadFault.TheVariants.{Map, CutOff, Field}
 use Rattle.keys.specs.Words.{first_wrong}
-use Rattle.records.specs.Fields.{Got, byte_at, four_at, word_at, word_bytes_at, join_at, part}
+use Rattle.records.specs.Fields.{Got, number_at, byte_at, four_at, word_at, word_bytes_at, part}
 use Rattle.records.specs.Values.{RecordValue}
 use Rattle.records.specs.Reading.{next, bit, fields_of, reading}
 use Rattle.records.specs.Writing.{encode_byte, encode_four, encode_word, within, word_fits, in_range, map_of, encode}
-use Rattle.records.proofs.Bits.{split_join, map_from}
+use Rattle.records.proofs.Numbers.{Stored, byte_stored, four_stored}
+use Rattle.records.proofs.Bits.{map_from}
 use Rattle.records.proofs.Back.{run}
 
 pub ok_same : {A E : Type 0} {x y : A} → ◌≡◌ {A = Result A E} (Ok x) (Ok y) → x ≡ y
@@ -31,40 +32,17 @@ Took present okay enc bs at x =
     (present ≡ is_some x.0) × (okay x.0 ≡ true) × (take x.1 bs ≡ take at bs ++ enc x.0) × (x.1 ≤ length bs)
 
 module _ (bs : List ℕ) (bytes : (i : ℕ) → get_or bs i 0 < 256) (at : ℕ) (l : at ≤ length bs) where
-  byte_forth : (present : Bool) (lo hi : ℕ) (x : Option ℕ × ℕ) → byte_at present lo hi bs at ≡ Ok x → Took present (within lo hi) encode_byte bs at x
-  byte_forth false lo hi x q =
-      subst (Took false (within lo hi) encode_byte bs at) (ok_same q) (refl, refl, sym (append-nil (take at bs)), l)
-  byte_forth true lo hi x q =
-      let b : ℕ = get_or bs at 0 in
-      let got : Got ℕ = Ok (Some b, at + 1) in
-      let c = cond_ok (ltb at (length bs)) (cond (leb lo b && leb b hi) got (Err (Field at))) (CutOff (length bs)) x q in
-      let d = cond_ok (leb lo b && leb b hi) got (Field at) x c.1 in
-      let h : at < length bs = ltb-true at (length bs) c.0 in
-      let k : at + 1 ≤ length bs = omega (arith, h) in
-      subst (Took true (within lo hi) encode_byte bs at) {x = (Some b, at + 1)} (ok_same d.1) (refl, d.0, take_more bs at 0 h, k)
-
-  take_four : at + 4 ≤ length bs → take (at + 4) bs ≡ take at bs ++ encode_four (Some (join_at bs at))
-  take_four h =
-      let d0 = drop_more bs at 0 (omega arith) in
-      let d1 : drop (at + 1) bs ≡ get_or bs (at + 1) 0 ∷ drop (at + 2) bs =
-      drop_more bs (at + 1) 0 (omega arith) ∙ ap (λ n. get_or bs (at + 1) 0 ∷ drop n bs) (omega arith) in
-      let d2 : drop (at + 2) bs ≡ get_or bs (at + 2) 0 ∷ drop (at + 3) bs =
-      drop_more bs (at + 2) 0 (omega arith) ∙ ap (λ n. get_or bs (at + 2) 0 ∷ drop n bs) (omega arith) in
-      let d3 = drop_more bs (at + 3) 0 (omega arith) in
-      let all = d0 ∙ ap (λ xs. get_or bs at 0 ∷ xs) (d1 ∙ ap (λ xs. get_or bs (at + 1) 0 ∷ xs) (d2 ∙ ap (λ xs. get_or bs (at + 2) 0 ∷ xs) d3)) in
-      take-add at 4 bs ∙ ap (λ xs. take at bs ++ take 4 xs) all
-      ∙ ap (λ xs. take at bs ++ xs) (sym (split_join (get_or bs at 0) (get_or bs (at + 1) 0) (get_or bs (at + 2) 0) (get_or bs (at + 3) 0) (bytes at) (bytes (at + 1)) (bytes (at + 2)) (bytes (at + 3))))
-
-  four_forth : (present : Bool) (hi : ℕ) (x : Option ℕ × ℕ) → four_at present hi bs at ≡ Ok x → Took present (within 0 hi) encode_four bs at x
-  four_forth false hi x q =
-      subst (Took false (within 0 hi) encode_four bs at) (ok_same q) (refl, refl, sym (append-nil (take at bs)), l)
-  four_forth true hi x q =
-      let v : ℕ = join_at bs at in
-      let got : Got ℕ = Ok (Some v, at + 4) in
-      let c = cond_ok (leb (at + 4) (length bs)) (cond (leb v hi) got (Err (Field at))) (CutOff (length bs)) x q in
-      let d = cond_ok (leb v hi) got (Field at) x c.1 in
-      let h : at + 4 ≤ length bs = leb-true (at + 4) (length bs) c.0 in
-      subst (Took true (within 0 hi) encode_four bs at) {x = (Some v, at + 4)} (ok_same d.1) (refl, and_from (leb 0 v) (leb v hi) (le-leb 0 v (omega arith)) d.0, take_four h, h)
+  number_forth : {width : ℕ} {value_at : List ℕ → ℕ → ℕ} {written : Option ℕ → List ℕ} → Stored width value_at written →
+      (present : Bool) (lo hi : ℕ) (x : Option ℕ × ℕ) → number_at width value_at leb present lo hi bs at ≡ Ok x → Took present (within lo hi) written bs at x
+  number_forth {width} {value_at} {written} stored false lo hi x q =
+      subst (Took false (within lo hi) written bs at) (ok_same q) (refl, refl, sym (append-nil (take at bs)) ∙ ap (λ xs. take at bs ++ xs) (sym stored.absent), l)
+  number_forth {width} {value_at} {written} stored true lo hi x q =
+      let v : ℕ = value_at bs at in
+      let got : Got ℕ = Ok (Some v, at + width) in
+      let c = cond_ok (leb (at + width) (length bs)) (cond (leb lo v && leb v hi) got (Err (Field at))) (CutOff (length bs)) x q in
+      let d = cond_ok (leb lo v && leb v hi) got (Field at) x c.1 in
+      let h : at + width ≤ length bs = leb-true (at + width) (length bs) c.0 in
+      subst (Took true (within lo hi) written bs at) {x = (Some v, at + width)} (ok_same d.1) (refl, d.0, stored.forth bs at bytes h, h)
 
   word_forth : (present : Bool) (x : Option (List ℕ) × ℕ) → word_at present bs at ≡ Ok x → Took present word_fits encode_word bs at x
   word_forth false x q =
@@ -133,10 +111,10 @@ writes_back (m ∷ rest) bytes y q =
     let high = leb-true m 31 range.1 in
     let ran = run_inv (four_at (bit m 1) 86_399 bs 1) (λ p. byte_at (bit m 2) 0 63 bs p) (λ p. byte_at (bit m 4) 1 250 bs p) (λ p. four_at (bit m 8) 4_294_967_295 bs p) (λ p. word_at (bit m 16) bs p) y a.1 in
     let one : 1 ≤ length bs = omega arith in
-    let t = four_forth bs bytes 1 one (bit m 1) 86_399 ran.t ran.t_is in
-    let k = byte_forth bs bytes ran.t.1 t.3 (bit m 2) 0 63 ran.k ran.k_is in
-    let o = byte_forth bs bytes ran.k.1 k.3 (bit m 4) 1 250 ran.o ran.o_is in
-    let s = four_forth bs bytes ran.o.1 o.3 (bit m 8) 4_294_967_295 ran.s ran.s_is in
+    let t = number_forth bs bytes 1 one four_stored (bit m 1) 0 86_399 ran.t ran.t_is in
+    let k = number_forth bs bytes ran.t.1 t.3 byte_stored (bit m 2) 0 63 ran.k ran.k_is in
+    let o = number_forth bs bytes ran.k.1 k.3 byte_stored (bit m 4) 1 250 ran.o ran.o_is in
+    let s = number_forth bs bytes ran.o.1 o.3 four_stored (bit m 8) 0 4_294_967_295 ran.s ran.s_is in
     let w = word_forth bs bytes ran.s.1 s.3 (bit m 16) ran.w ran.w_is in
     let r : RecordValue = record { time = ran.t.0; kind = ran.k.0; console = ran.o.0; source = ran.s.0; flight = ran.w.0 } in
     let same : map_of r ≡ m = map_from r m high t.0 k.0 o.0 s.0 w.0 in

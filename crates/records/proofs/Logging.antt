@@ -1,7 +1,7 @@
 -- A log's bytes split into records in one way, which is how the log is read. Idea: each record read takes at least one
 -- byte, so turns do not matter, and a record's encoding reads as that record whatever follows.
 use Rattle.std.proofs.Common.{◌≡◌, ℕ, zero, suc, ◌+◌, ◌-◌, ◌≤◌, true, ltb, List, [], ◌∷◌, ◌++◌, length, take, drop, Some, None, Ok, Err, Option, Result, sym, refl, ap, ◌∙◌, subst, append_assoc, arith}
-use Rattle.std.proofs.lemmas.List.{length-append, length-drop, length-take-le, take-append-drop, drop_at, get_or-drop}
+use Rattle.std.proofs.lemmas.List.{length-append, length-drop, length-take-le, take-append-drop, drop_at, get_or-drop, nil_from_length}
 use Rattle.std.proofs.lemmas.Bool.{and_parts, and_from}
 use Rattle.records.specs.declared.fault.ReadFault.{ReadFault}
 use Rattle.records.specs.Faults.{place_of}
@@ -54,6 +54,9 @@ log_stopped index offset (b ∷ bs) f h q =
 pub log_ended : (index offset : ℕ) → log_from index offset [] ≡ ended
 unfolding read_turns
 log_ended index offset = refl
+
+pub log_over : (index offset : ℕ) (bs : List ℕ) → length bs ≡ 0 → log_from index offset bs ≡ ended
+log_over index offset bs h = ap (log_from index offset) (nil_from_length bs h) ∙ log_ended index offset
 
 -- a record before what splits
 splits_more : (index offset : ℕ) (bs : List ℕ) (r : RecordValue) (n : ℕ) (log : Log) → is_record r ≡ true → encode r ≡ take n bs → n ≤ length bs →

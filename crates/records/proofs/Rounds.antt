@@ -1,5 +1,5 @@
 -- The laws of reader and writer at an answer: what was read writes back, what was written reads back, one encoding.
-use Rattle.std.proofs.Common.{◌≡◌, ℕ, ◌+◌, ◌<◌, ◌≤◌, true, cond, ◌&&◌, eqb, ltb, leb, List, [], ◌++◌, length, Some, None, Ok, Err, Option, Result, sym, refl, ap, ◌∙◌, ⊎_elim, arith}
+use Rattle.std.proofs.Common.{◌≡◌, ℕ, ◌+◌, ◌<◌, ◌≤◌, true, cond, ◌&&◌, eqb, ltb, leb, List, [], ◌++◌, length, Some, None, Ok, Err, Option, Result, sym, refl, ap, ◌∙◌, ⊎_elim, Fits, w8, get_or, arith}
 use Rattle.std.proofs.lemmas.List.{length-append, length-take-le, append-nil}
 use Rattle.std.proofs.lemmas.Bool.{le-leb, leb-true, ltb-true, and_parts, and_from, cases_lt}
 use Rattle.keys.specs.declared.refusal.Refusal.{Refusal}
@@ -11,17 +11,14 @@ use Rattle.records.specs.Values.{RecordValue}
 use Rattle.records.specs.Reading.{reading}
 use Rattle.records.specs.Writing.{weight, encode_byte, encode_four, encode_word, within, word_fits, in_range, map_of, encode, writing}
 use Rattle.records.specs.Laws.{Bytes, WasRead, ReadLaws, WriteLaws}
+use Rattle.records.proofs.Numbers.{Stored, byte_stored, four_stored}
 use Rattle.records.proofs.Back.{reads_back}
 use Rattle.records.proofs.Forth.{writes_back, ok_same, cond_ok}
 use Rattle.records.proofs.Torn.{cut_off, fault_inside}
 
-byte_short : (f : Option ℕ) → length (encode_byte f) ≤ 1
-byte_short (Some b) = omega arith
-byte_short None = omega arith
-
-four_short : (f : Option ℕ) → length (encode_four f) ≤ 4
-four_short (Some v) = omega arith
-four_short None = omega arith
+number_short : {width : ℕ} {value_at : List ℕ → ℕ → ℕ} {written : Option ℕ → List ℕ} → Stored width value_at written → (f : Option ℕ) → length (written f) ≤ width
+number_short stored (Some v) = omega (arith, stored.long v)
+number_short stored None = omega (arith, ap length stored.absent)
 
 word_short : (f : Option (List ℕ)) → word_fits f ≡ true → length (encode_word f) ≤ 9
 word_short (Some w) h =
@@ -30,23 +27,20 @@ word_short (Some w) h =
     omega (arith, leb-true (length w) 8 b.1)
 word_short None h = omega arith
 
-pub encode_length : (r : RecordValue) →
+encode_length : (r : RecordValue) →
     length (encode r) ≡ 1 + length (encode_four r.time) + length (encode_byte r.kind) + length (encode_byte r.console) + length (encode_four r.source) + length (encode_word r.flight)
 encode_length r = simp length-append (omega arith)
 
 encode_short : (r : RecordValue) → in_range r ≡ true → length (encode r) ≤ 20
 encode_short r h =
     let w = and_parts (within 0 86_399 r.time && within 0 63 r.kind && within 1 250 r.console && within 0 4_294_967_295 r.source) (word_fits r.flight) h in
-    omega (arith, encode_length r, four_short r.time, byte_short r.kind, byte_short r.console, four_short r.source, word_short r.flight w.1)
+    omega (arith, encode_length r, number_short four_stored r.time, number_short byte_stored r.kind, number_short byte_stored r.console, number_short four_stored r.source, word_short r.flight w.1)
 
 -- a field that takes no bytes sets no bit
-byte_none : (f : Option ℕ) (w : ℕ) → length (encode_byte f) ≡ 0 → weight f w ≡ 0
-byte_none (Some b) w e = absurd (omega (arith, e))
-byte_none None w e = refl
-
-four_none : (f : Option ℕ) (w : ℕ) → length (encode_four f) ≡ 0 → weight f w ≡ 0
-four_none (Some v) w e = absurd (omega (arith, e))
-four_none None w e = refl
+number_none : {width : ℕ} {value_at : List ℕ → ℕ → ℕ} {written : Option ℕ → List ℕ} → Stored width value_at written → 1 ≤ width →
+    (f : Option ℕ) (w : ℕ) → length (written f) ≡ 0 → weight f w ≡ 0
+number_none stored one (Some v) w e = absurd (omega (arith, e, stored.long v, one))
+number_none stored one None w e = refl
 
 word_none : (f : Option (List ℕ)) (w : ℕ) → length (encode_word f) ≡ 0 → weight f w ≡ 0
 word_none (Some v) w e = absurd (omega (arith, e))
@@ -58,10 +52,10 @@ encode_some r h =
     ⊎_elim (λ (more : 1 < length (encode r)). more)
     (λ (none : length (encode r) ≤ 1).
     let long = encode_length r in
-    let time = four_none r.time 1 (omega arith) in
-    let kind = byte_none r.kind 2 (omega arith) in
-    let console = byte_none r.console 4 (omega arith) in
-    let source = four_none r.source 8 (omega arith) in
+    let time = number_none four_stored (omega arith) r.time 1 (omega arith) in
+    let kind = number_none byte_stored (omega arith) r.kind 2 (omega arith) in
+    let console = number_none byte_stored (omega arith) r.console 4 (omega arith) in
+    let source = number_none four_stored (omega arith) r.source 8 (omega arith) in
     let flight = word_none r.flight 16 (omega arith) in
     absurd (omega (arith, ltb-true 0 (map_of r) h, time, kind, console, source, flight)))
     (cases_lt 1 (length (encode r)))
@@ -91,6 +85,9 @@ was_read bs bytes r n q =
 pub read_laws : (bs : List ℕ) → Bytes bs → (a : Result (RecordValue × ℕ) ReadFault) → a ≡ reading bs → ReadLaws bs a
 read_laws bs bytes (Ok p) e = was_read bs bytes p.0 p.1 (sym e)
 read_laws bs bytes (Err x) e = fault_inside bs x (sym e)
+
+pub slice_read_laws : (bs : List ℕ) → ((i : ℕ) → Fits w8 (get_or bs i 0)) → (a : Result (RecordValue × ℕ) ReadFault) → a ≡ reading bs → ReadLaws bs a
+slice_read_laws bs fit a e = read_laws bs (λ i. omega (arith, fit i)) a e
 
 -- what the writer found where it answers a length
 wrote : (r : RecordValue) (room n : ℕ) → Ok n ≡ writing r room → (ltb 0 (map_of r) ≡ true) × (in_range r ≡ true) × (length (encode r) ≡ n)

@@ -3,15 +3,16 @@
 use Rattle.std.proofs.Common.{◌≡◌, ℕ, zero, suc, ◌+◌, ◌-◌, ◌<◌, ◌≤◌, Bool, true, false, cond, ◌&&◌, eqb, ltb, leb, List, [], ◌∷◌, length, get_or, take, drop, Some, None, Ok, Err, Option, Result, sym, refl, ap, ◌∙◌, subst, ⊎_elim, arith}
 use Rattle.std.proofs.lemmas.List.{length-take, length-take-le, get_or-take, take-take}
 use Rattle.std.proofs.lemmas.Slice.{between_is}
-use Rattle.std.proofs.lemmas.Bool.{le-leb, lt-leb, lt-ltb, le-ltb, leb-true, ltb-true, cases_lt, cond_both, cond-true}
+use Rattle.std.proofs.lemmas.Bool.{le-leb, lt-leb, lt-ltb, le-ltb, leb-true, cases_lt, cond_both, cond-true}
 use Rattle.keys.specs.Words.{first_wrong}
 use Rattle.keys.proofs.Lexical.{first_is}
 use Rattle.records.specs.declared.fault.ReadFault.{ReadFault}
 use Rattle.records.specs.declared.fault.ReadFault.TheVariants.{Map, CutOff, Field}
 use Rattle.records.specs.Faults.{place_of}
-use Rattle.records.specs.Fields.{Got, byte_at, four_at, word_at, word_bytes_at, join_at, part}
+use Rattle.records.specs.Fields.{Got, number_at, word_at, word_bytes_at, join_at, part}
 use Rattle.records.specs.Values.{RecordValue}
 use Rattle.records.specs.Reading.{next, bit, fields_of, reading}
+use Rattle.records.proofs.Numbers.{Stored, byte_stored, four_stored}
 use Rattle.records.proofs.Forth.{ok_same, cond_ok}
 
 -- of a field's reader: what it answers of the whole input, and of the first k bytes
@@ -29,40 +30,21 @@ module _ (bs : List ℕ) (k : ℕ) (l : k ≤ length bs) where
   absent_cut : {A : Type 0} (at : ℕ) → at ≤ k → Cut {A = A} k (Ok (None, at)) (Ok (None, at))
   absent_cut at h x q = (λ _. q, λ more. let e : at ≡ x.1 = ap (λ y. y.1) (ok_same q) in absurd (omega arith))
 
-  byte_cut : (present : Bool) (lo hi at : ℕ) → at ≤ k → Cut k (byte_at present lo hi bs at) (byte_at present lo hi (take k bs) at)
-  byte_cut false lo hi at h x q = absent_cut at h x q
-  byte_cut true lo hi at h x q =
-      let b : ℕ = get_or bs at 0 in
-      let got : Got ℕ = Ok (Some b, at + 1) in
-      let c = cond_ok (ltb at (length bs)) (cond (leb lo b && leb b hi) got (Err (Field at))) (CutOff (length bs)) x q in
-      let d = cond_ok (leb lo b && leb b hi) got (Field at) x c.1 in
-      let e : at + 1 ≡ x.1 = ap (λ y. y.1) (ok_same d.1) in (
+  number_cut : {width : ℕ} {value_at : List ℕ → ℕ → ℕ} {written : Option ℕ → List ℕ} → Stored width value_at written →
+      (present : Bool) (lo hi at : ℕ) → at ≤ k → Cut k (number_at width value_at leb present lo hi bs at) (number_at width value_at leb present lo hi (take k bs) at)
+  number_cut stored false lo hi at h x q = absent_cut at h x q
+  number_cut {width} {value_at} stored true lo hi at h x q =
+      let v : ℕ = value_at bs at in
+      let got : Got ℕ = Ok (Some v, at + width) in
+      let c = cond_ok (leb (at + width) (length bs)) (cond (leb lo v && leb v hi) got (Err (Field at))) (CutOff (length bs)) x q in
+      let d = cond_ok (leb lo v && leb v hi) got (Field at) x c.1 in
+      let e : at + width ≡ x.1 = ap (λ y. y.1) (ok_same d.1) in (
         λ inside.
-            let t = lt-ltb at k (omega arith) in
-            let g = get_or-take k bs at 0 (omega arith) in
+            let t = le-leb (at + width) k (omega arith) in
+            let g = stored.begun bs at k (omega arith) in
             rw (ends, t, g, d.0) d.1,
         λ more.
-            let t = le-ltb at k (omega arith) in
-            rw (ends, t),
-      )
-
-  four_cut : (present : Bool) (hi at : ℕ) → at ≤ k → Cut k (four_at present hi bs at) (four_at present hi (take k bs) at)
-  four_cut false hi at h x q = absent_cut at h x q
-  four_cut true hi at h x q =
-      let v : ℕ = join_at bs at in
-      let got : Got ℕ = Ok (Some v, at + 4) in
-      let c = cond_ok (leb (at + 4) (length bs)) (cond (leb v hi) got (Err (Field at))) (CutOff (length bs)) x q in
-      let d = cond_ok (leb v hi) got (Field at) x c.1 in
-      let e : at + 4 ≡ x.1 = ap (λ y. y.1) (ok_same d.1) in (
-        λ inside.
-            let t = le-leb (at + 4) k (omega arith) in
-            let g0 = get_or-take k bs at 0 (omega arith) in
-            let g1 = get_or-take k bs (at + 1) 0 (omega arith) in
-            let g2 = get_or-take k bs (at + 2) 0 (omega arith) in
-            let g3 = get_or-take k bs (at + 3) 0 (omega arith) in
-            rw (ends, t, g0, g1, g2, g3, d.0) d.1,
-        λ more.
-            let t = lt-leb (at + 4) k (omega arith) in
+            let t = lt-leb (at + width) k (omega arith) in
             rw (ends, t),
       )
 
@@ -112,10 +94,10 @@ next_cut k (Ok x) h f f' c later y q more =
 
 fields_cut : (map : ℕ) (bs : List ℕ) (k : ℕ) → 1 ≤ k → k ≤ length bs → CutAll k (fields_of map bs) (fields_of map (take k bs))
 fields_cut map bs k one l =
-    next_cut k _ _ _ _ (four_cut bs k l (bit map 1) 86_399 1 one) (λ time a ha.
-    next_cut k _ _ _ _ (byte_cut bs k l (bit map 2) 0 63 a ha) (λ kind b hb.
-    next_cut k _ _ _ _ (byte_cut bs k l (bit map 4) 1 250 b hb) (λ console c hc.
-    next_cut k _ _ _ _ (four_cut bs k l (bit map 8) 4_294_967_295 c hc) (λ source d hd.
+    next_cut k _ _ _ _ (number_cut bs k l four_stored (bit map 1) 0 86_399 1 one) (λ time a ha.
+    next_cut k _ _ _ _ (number_cut bs k l byte_stored (bit map 2) 0 63 a ha) (λ kind b hb.
+    next_cut k _ _ _ _ (number_cut bs k l byte_stored (bit map 4) 1 250 b hb) (λ console c hc.
+    next_cut k _ _ _ _ (number_cut bs k l four_stored (bit map 8) 0 4_294_967_295 c hc) (λ source d hd.
     next_cut k _ _ _ _ (word_cut bs k l (bit map 16) d hd) (λ flight e he y q more.
     let z : e ≡ y.1 = ap (λ x. x.1) (ok_same q) in absurd (omega arith))))))
 
@@ -136,19 +118,11 @@ Inside bs (Ok y) = y.1 ≤ length bs
 Inside bs (Err e) = place_of e ≤ length bs
 
 module _ (bs : List ℕ) where
-  byte_inside : (present : Bool) (lo hi at : ℕ) → at ≤ length bs → Inside bs (byte_at present lo hi bs at)
-  byte_inside present lo hi at h =
+  number_inside : (width : ℕ) (value_at : List ℕ → ℕ → ℕ) (present : Bool) (lo hi at : ℕ) → at ≤ length bs → Inside bs (number_at width value_at leb present lo hi bs at)
+  number_inside width value_at present lo hi at h =
       cond_both present _ _ (Inside bs)
-      (λ _. cond_both (ltb at (length bs)) _ _ (Inside bs)
-      (λ t. cond_both (leb lo (get_or bs at 0) && leb (get_or bs at 0) hi) _ _ (Inside bs) (λ _. omega (arith, ltb-true at (length bs) t)) (λ _. h))
-      (λ _. omega arith))
-      (λ _. h)
-
-  four_inside : (present : Bool) (hi at : ℕ) → at ≤ length bs → Inside bs (four_at present hi bs at)
-  four_inside present hi at h =
-      cond_both present _ _ (Inside bs)
-      (λ _. cond_both (leb (at + 4) (length bs)) _ _ (Inside bs)
-      (λ t. cond_both (leb (join_at bs at) hi) _ _ (Inside bs) (λ _. leb-true (at + 4) (length bs) t) (λ _. h))
+      (λ _. cond_both (leb (at + width) (length bs)) _ _ (Inside bs)
+      (λ t. cond_both (leb lo (value_at bs at) && leb (value_at bs at) hi) _ _ (Inside bs) (λ _. leb-true (at + width) (length bs) t) (λ _. h))
       (λ _. omega arith))
       (λ _. h)
 
@@ -174,10 +148,10 @@ module _ (bs : List ℕ) where
 
   fields_inside : (map : ℕ) → 1 ≤ length bs → Inside bs (fields_of map bs)
   fields_inside map one =
-      next_inside _ _ (four_inside (bit map 1) 86_399 1 one) (λ time a ha.
-      next_inside _ _ (byte_inside (bit map 2) 0 63 a ha) (λ kind b hb.
-      next_inside _ _ (byte_inside (bit map 4) 1 250 b hb) (λ console c hc.
-      next_inside _ _ (four_inside (bit map 8) 4_294_967_295 c hc) (λ source d hd.
+      next_inside _ _ (number_inside 4 join_at (bit map 1) 0 86_399 1 one) (λ time a ha.
+      next_inside _ _ (number_inside 1 (λ bs at. get_or bs at 0) (bit map 2) 0 63 a ha) (λ kind b hb.
+      next_inside _ _ (number_inside 1 (λ bs at. get_or bs at 0) (bit map 4) 1 250 b hb) (λ console c hc.
+      next_inside _ _ (number_inside 4 join_at (bit map 8) 0 4_294_967_295 c hc) (λ source d hd.
       next_inside _ _ (word_inside (bit map 16) d hd) (λ flight e he. he)))))
 
 reading_inside : (bs : List ℕ) → Inside bs (reading bs)

@@ -8,14 +8,18 @@ use Rattle.records.specs.declared.fault.ReadFault.TheVariants.{CutOff, Field}
 abbrev pub Got : Type 0 → Type 0
 Got A = Result (Option A × ℕ) ReadFault
 
--- a field of one byte, lo to hi: cut off, then out of range
-abbrev pub byte_at : (present : Bool) (lo hi : ℕ) (bs : List ℕ) (at : ℕ) → Got ℕ
-byte_at present lo hi bs at =
+-- a field that is a number, lo to hi, in `width` bytes, whose value at a place is `value_at`: cut off, then out of range
+abbrev pub number_at : {A : Type 0} (width : ℕ) (value_at : List ℕ → ℕ → A) (at_most : A → A → Bool) (present : Bool) (lo hi : A) (bs : List ℕ) (at : ℕ) → Got A
+number_at width value_at at_most present lo hi bs at =
     cond present
-    (cond (nat_lt at (length bs))
-    (cond (nat_le lo (slice_index bs at) && nat_le (slice_index bs at) hi) (Ok (Some (slice_index bs at), at + 1)) (Err (Field at)))
+    (cond (nat_le (at + width) (length bs))
+    (cond (at_most lo (value_at bs at) && at_most (value_at bs at) hi) (Ok (Some (value_at bs at), at + width)) (Err (Field at)))
     (Err (CutOff (length bs))))
     (Ok (None, at))
+
+-- a field of one byte, lo to hi
+abbrev pub byte_at : (present : Bool) (lo hi : ℕ) (bs : List ℕ) (at : ℕ) → Got ℕ
+byte_at present lo hi bs at = number_at 1 slice_index nat_le present lo hi bs at
 
 -- the number that four bytes make, the highest first
 abbrev pub join : ℕ → ℕ → ℕ → ℕ → ℕ
@@ -24,14 +28,9 @@ join a b c d = a * 16_777_216 + b * 65_536 + c * 256 + d
 abbrev pub join_at : List ℕ → ℕ → ℕ
 join_at bs at = join (slice_index bs at) (slice_index bs (at + 1)) (slice_index bs (at + 2)) (slice_index bs (at + 3))
 
--- a field of four bytes, 0 to hi: cut off, then out of range
+-- a field of four bytes, 0 to hi
 abbrev pub four_at : (present : Bool) (hi : ℕ) (bs : List ℕ) (at : ℕ) → Got ℕ
-four_at present hi bs at =
-    cond present
-    (cond (nat_le (at + 4) (length bs))
-    (cond (nat_le (join_at bs at) hi) (Ok (Some (join_at bs at), at + 4)) (Err (Field at)))
-    (Err (CutOff (length bs))))
-    (Ok (None, at))
+four_at present hi bs at = number_at 4 join_at nat_le present 0 hi bs at
 
 -- n bytes at a place
 abbrev pub part : List ℕ → ℕ → ℕ → List ℕ

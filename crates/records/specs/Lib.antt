@@ -3,6 +3,6 @@ pub mod Fields
 pub mod Values
 pub mod Reading
 pub mod Writing
-pub mod Pasting
 pub mod Laws
 pub mod Logs
+pub mod Items

@@ -2,12 +2,22 @@
 use Rattle.std.specs.Prelude.{ℕ, ◌/◌, ◌%◌, Bool, cond, ◌&&◌, List, [], ◌∷◌, Ok, Err, Option, Result, ◌==◌, nat_le}
 use Rattle.records.specs.declared.fault.ReadFault.{ReadFault}
 use Rattle.records.specs.declared.fault.ReadFault.TheVariants.{Map, CutOff}
+use Rattle.records.specs.declared.map.Bit.{Bit}
+use Rattle.records.specs.declared.map.Bit.TheVariants.{Time, Kind, Console, Source, Flight}
 use Rattle.records.specs.Fields.{Got, byte_at, four_at, word_at}
 use Rattle.records.specs.Values.{RecordValue}
 
 -- whether the bit of this weight is set
 abbrev pub bit : ℕ → ℕ → Bool
 bit map weight = map / weight % 2 == 1
+
+-- the weight of each field's bit
+abbrev pub weight_of : Bit → ℕ
+weight_of Time = 1
+weight_of Kind = 2
+weight_of Console = 4
+weight_of Source = 8
+weight_of Flight = 16
 
 -- go on from the place after a field
 abbrev pub next : {A B : Type 0} → Got A → (Option A → ℕ → Result B ReadFault) → Result B ReadFault

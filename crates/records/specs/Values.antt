@@ -16,10 +16,6 @@ abbrev pub bytes_of : Option (Bor (List ℕ)) → Option (List ℕ)
 bytes_of (Some w) = Some w.now
 bytes_of None = None
 
-abbrev pub got_bytes : Result (Option (Bor (List ℕ)) × ℕ) ReadFault → Got (List ℕ)
-got_bytes (Ok p) = Ok (bytes_of p.0, p.1)
-got_bytes (Err e) = Err e
-
 abbrev pub value_of : Record → RecordValue
 value_of r = record { time = r.time; kind = r.kind; console = r.console; source = r.source; flight = bytes_of r.flight }
 
@@ -27,3 +23,13 @@ value_of r = record { time = r.time; kind = r.kind; console = r.console; source 
 abbrev pub valued : Result (Record × ℕ) ReadFault → Result (RecordValue × ℕ) ReadFault
 valued (Ok p) = Ok (value_of p.0, p.1)
 valued (Err e) = Err e
+
+-- a flight word's answer, by its bytes
+abbrev pub word_read : Result (Option (Bor (List ℕ))) ReadFault → Result (Option (List ℕ)) ReadFault
+word_read (Ok f) = Ok (bytes_of f)
+word_read (Err e) = Err e
+
+-- a field's answer, and the place after it
+abbrev pub placed : {A : Type 0} → Result (Option A) ReadFault → ℕ → Got A
+placed (Ok f) at = Ok (f, at)
+placed (Err e) at = Err e

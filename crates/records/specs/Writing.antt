@@ -33,10 +33,14 @@ map_of r = weight r.time 1 + weight r.kind 2 + weight r.console 4 + weight r.sou
 abbrev pub encode : RecordValue → List ℕ
 encode r = (map_of r ∷ []) ++ encode_four r.time ++ encode_byte r.kind ++ encode_byte r.console ++ encode_four r.source ++ encode_word r.flight
 
--- a field that is present lies between lo and hi
+-- a field that is present lies between lo and hi, by the order `at_most`
+abbrev pub between : {A : Type 0} → (at_most : A → A → Bool) → A → A → Option A → Bool
+between at_most lo hi (Some v) = at_most lo v && at_most v hi
+between at_most lo hi None = true
+
+-- a number that is present lies between lo and hi
 abbrev pub within : ℕ → ℕ → Option ℕ → Bool
-within lo hi (Some v) = nat_le lo v && nat_le v hi
-within lo hi None = true
+within lo hi field = between nat_le lo hi field
 
 -- a flight word that is present is one
 abbrev pub word_fits : Option (List ℕ) → Bool

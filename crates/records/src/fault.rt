@@ -6,24 +6,26 @@ use keys::refusal::Refusal;
 
 /// The reader's fault, with its place in the input: the map byte; the input's length where it is cut off; the first
 /// byte of the field that is out of range, or a flight word's first wrong byte.
-#[derive(Clone, Copy)]
+#[derive(Clone, Copy, Debug, PartialEq, Eq, Hash)]
 pub enum ReadFault {
     Map(usize),
     CutOff(usize),
     Field(usize),
 }
 
-impl ReadFault {
-    pub fn refusal(self) -> Refusal
-        ensures { result ≡ refusal_of self }
-    {
-        match self {
+impl From<ReadFault> for Refusal {
+    ghost from_gives = { λ fault refusal. refusal ≡ refusal_of fault };
+
+    fn from(fault: ReadFault) -> Refusal {
+        match fault {
             ReadFault::Map(_) => Refusal::Map,
             ReadFault::CutOff(_) => Refusal::CutOff,
             ReadFault::Field(_) => Refusal::Field,
         }
     }
+}
 
+impl ReadFault {
     pub fn place(self) -> usize
         ensures { result ≡ place_of self }
     {

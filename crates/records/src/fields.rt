@@ -1,107 +1,72 @@
-//! One field each, read at a place of the input: the field if its bit is set, and the place after it.
-ghost use Rattle.std.specs.Prelude.{◌≡◌, ◌+◌, ◌≤◌, length, IfOk};
-ghost use Rattle.records.specs.Fields.{byte_at, four_at, join_at, word_bytes_at, word_at};
-ghost use Rattle.records.specs.Values.{got_bytes};
+//! The fields of a record, read one after another.
+ghost use Rattle.std.specs.Prelude.{◌≡◌, ◌≤◌, length, slice_index};
+ghost use Rattle.records.specs.Fields.{number_at, word_at};
+ghost use Rattle.records.specs.Reading.{bit, weight_of};
+ghost use Rattle.records.specs.Values.{placed, word_read};
 
 use crate::fault::ReadFault;
+use crate::map::Bit;
+use crate::number::Number;
 use keys::word::bytes::first_wrong;
 
-/// A field of one byte, `lo` to `hi`.
-pub(crate) fn read_byte(
-    present: bool,
-    lo: u8,
-    hi: u8,
-    input: &[u8],
-    at: usize,
-) -> Result<(Option<u8>, usize), ReadFault>
-    requires { at ≤ length input.now }
-    ensures answer { result ≡ byte_at present lo hi input.now at }
-    ensures within { IfOk result (λ p. p.1 ≤ length input.now) }
-{
-    if !present {
-        return Ok((None, at));
-    }
-    if at >= input.len() {
-        return Err(ReadFault::CutOff(input.len()));
-    }
-    let byte = input[at];
-    if byte < lo || byte > hi {
-        return Err(ReadFault::Field(at));
-    }
-    Ok((Some(byte), at + 1))
+/// The input, which begins with the map byte, and the place of the next field.
+#[derive(Drop)]
+pub(crate) struct Fields<'a> {
+    pub(crate) input: &'a [u8],
+    pub(crate) at: usize,
+    ghost after_map: { 1 ≤ at },
+    ghost within: { at ≤ length input.now },
 }
 
-/// The number that four bytes make, the highest first.
-fn four(input: &[u8], at: usize) -> u32
-    requires { at + 4 ≤ length input.now }
-    ensures { result ≡ join_at input.now at }
-{
-    u32::from(input[at]) * 16_777_216
-        + u32::from(input[at + 1]) * 65_536
-        + u32::from(input[at + 2]) * 256
-        + u32::from(input[at + 3])
-}
+impl<'a> Fields<'a> {
+    /// Whether the map has the bit.
+    fn has(&self, field: Bit) -> bool
+        ensures { result ≡ bit (slice_index self.now.input.now 0) (weight_of field) }
+    {
+        (self.input[0] >> field as u32) & 1 == 1
+    }
 
-/// A field of four bytes, 0 to `hi`.
-pub(crate) fn read_four(
-    present: bool,
-    hi: u32,
-    input: &[u8],
-    at: usize,
-) -> Result<(Option<u32>, usize), ReadFault>
-    requires { at ≤ length input.now }
-    ensures answer { result ≡ four_at present hi input.now at }
-    ensures within { IfOk result (λ p. p.1 ≤ length input.now) }
-{
-    if !present {
-        return Ok((None, at));
+    /// The next field, a number from `low` to `high`, if the map has its bit.
+    pub(crate) fn number<N: Number>(
+        &mut self,
+        field: Bit,
+        low: N,
+        high: N,
+    ) -> Result<Option<N>, ReadFault>
+        ensures answer { placed result self.new.at ≡ number_at N.WIDTH N.value_at N.at_most (bit (slice_index self.old.input.now 0) (weight_of field)) low high self.old.input.now self.old.at }
+        ensures input { self.new.input ≡ self.old.input }
+    {
+        if !self.has(field) {
+            return Ok(None);
+        }
+        if self.input.len() - self.at < N::WIDTH {
+            return Err(ReadFault::CutOff(self.input.len()));
+        }
+        let value = N::read(self.input, self.at);
+        if !(low..=high).contains(&value) {
+            return Err(ReadFault::Field(self.at));
+        }
+        self.at += N::WIDTH;
+        Ok(Some(value))
     }
-    if input.len() - at < 4 {
-        return Err(ReadFault::CutOff(input.len()));
-    }
-    let value = four(input, at);
-    if value > hi {
-        return Err(ReadFault::Field(at));
-    }
-    Ok((Some(value), at + 4))
-}
 
-/// The bytes of a flight word of length `n`.
-fn read_word_bytes(n: usize, input: &[u8], at: usize) -> Result<(Option<&[u8]>, usize), ReadFault>
-    requires { at ≤ length input.now }
-    ensures answer { got_bytes result ≡ word_bytes_at n input.now at }
-    ensures within { IfOk result (λ p. p.1 ≤ length input.now) }
-{
-    if input.len() - at < n {
-        return Err(ReadFault::CutOff(input.len()));
+    /// The next field, a flight word, if the map has its bit: a length byte, then as many bytes.
+    pub(crate) fn word(&mut self, field: Bit) -> Result<Option<&'a [u8]>, ReadFault>
+        ensures answer { placed (word_read result) self.new.at ≡ word_at (bit (slice_index self.old.input.now 0) (weight_of field)) self.old.input.now self.old.at }
+        ensures input { self.new.input ≡ self.old.input }
+    {
+        let Some(length) = self.number::<u8>(field, 1, 8)? else {
+            return Ok(None);
+        };
+        let length = usize::from(length);
+        if self.input.len() - self.at < length {
+            return Err(ReadFault::CutOff(self.input.len()));
+        }
+        let word = &self.input[self.at..self.at + length];
+        if let Some(wrong) = first_wrong(word) {
+            return Err(ReadFault::Field(self.at + wrong));
+        }
+        self.at += length;
+        Ok(Some(word))
     }
-    let word = &input[at..at + n];
-    let wrong = first_wrong(word);
-    if wrong != n {
-        return Err(ReadFault::Field(at + wrong));
-    }
-    Ok((Some(word), at + n))
-}
-
-/// A flight word: a length byte, then as many bytes.
-pub(crate) fn read_word(
-    present: bool,
-    input: &[u8],
-    at: usize,
-) -> Result<(Option<&[u8]>, usize), ReadFault>
-    requires { at ≤ length input.now }
-    ensures answer { got_bytes result ≡ word_at present input.now at }
-    ensures within { IfOk result (λ p. p.1 ≤ length input.now) }
-{
-    if !present {
-        return Ok((None, at));
-    }
-    if at >= input.len() {
-        return Err(ReadFault::CutOff(input.len()));
-    }
-    let n = input[at];
-    if n < 1 || n > 8 {
-        return Err(ReadFault::Field(at));
-    }
-    read_word_bytes(usize::from(n), input, at + 1)
 }

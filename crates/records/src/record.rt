@@ -1,7 +1,7 @@
 //! A record: time, event kind, console, source address and flight word, each of which may be missing. A flight word
 //! that was read is a part of the input.
 
-#[derive(Clone, Copy)]
+#[derive(Clone, Copy, Debug, PartialEq, Eq, Hash)]
 pub struct Record<'a> {
     pub time: Option<u32>,
     pub kind: Option<u8>,

@@ -1,138 +1,83 @@
 //! The writer: a record at the start of the output, or a refusal that leaves the output as it was.
-ghost use Rattle.std.specs.Prelude.{◌≡◌, ◌≤◌, true, ◌++◌, length, drop};
+ghost use Rattle.std.specs.Prelude.{◌≡◌, ◌+◌, ◌≤◌, true, ◌++◌, length};
+ghost use Rattle.arrayvec.specs.ArrayVec.{array_vec_len};
 ghost use Rattle.records.specs.Values.{bytes_of, value_of};
-ghost use Rattle.records.specs.Writing.{weight, map_of, within, word_fits, in_range, encode_byte, encode_four, encode_word, encode, writing, output_after};
+ghost use Rattle.records.specs.Writing.{map_of, between, word_fits, in_range, encode_word, encode, writing, output_after};
 ghost use Rattle.records.specs.Laws.{WriteLaws};
+ghost use Rattle.records.specs.declared.number.TheConstants.{LONGEST};
 
-use crate::puts::{put_byte, put_four, put_word};
+use crate::map::Bit;
+use crate::number::{Encoded, Number};
 use crate::record::Record;
 use keys::refusal::Refusal;
 use keys::word::bytes::is_word;
 
-fn byte_fits(lo: u8, hi: u8, field: Option<u8>) -> bool
-    ensures { result ≡ within lo hi field }
+/// Whether a number that is present lies from `low` to `high`.
+fn within<N: Number>(field: Option<N>, low: N, high: N) -> bool
+    ensures { result ≡ between N.at_most low high field }
 {
-    match field {
-        Some(v) => lo <= v && v <= hi,
-        None => true,
-    }
-}
-
-fn four_fits(hi: u32, field: Option<u32>) -> bool
-    ensures { result ≡ within 0 hi field }
-{
-    match field {
-        Some(v) => v <= hi,
-        None => true,
-    }
-}
-
-fn word_fits(field: Option<&[u8]>) -> bool
-    ensures { result ≡ word_fits (bytes_of field.entry) }
-{
-    match field {
-        Some(word) => is_word(word),
-        None => true,
-    }
+    field.is_none_or(|number| (low..=high).contains(&number))
 }
 
 /// Whether every field is in its range.
 fn in_range(given: &Record<'_>) -> bool
     ensures { result ≡ in_range (value_of given.now) }
 {
-    four_fits(86_399, given.time)
-        && byte_fits(0, 63, given.kind)
-        && byte_fits(1, 250, given.console)
-        && four_fits(u32::MAX, given.source)
-        && word_fits(given.flight)
-}
-
-/// A bit's weight in the map, if the field is present.
-fn weigh<T: Copy>(field: Option<T>, of: u8) -> u8
-    ensures { result ≡ weight field of }
-{
-    match field {
-        Some(_) => of,
-        None => 0,
-    }
-}
-
-fn weigh_word(field: Option<&[u8]>, of: u8) -> u8
-    ensures { result ≡ weight (bytes_of field.entry) of }
-{
-    match field {
-        Some(_) => of,
-        None => 0,
-    }
+    within(given.time, 0, 86_399)
+        && within(given.kind, 0, 63)
+        && within(given.console, 1, 250)
+        && within(given.source, 0, u32::MAX)
+        && given.flight.is_none_or(is_word)
 }
 
 /// The map byte of a record.
 fn map_of(given: &Record<'_>) -> u8
     ensures { result ≡ map_of (value_of given.now) }
 {
-    let time = weigh(given.time, 1);
-    let kind = weigh(given.kind, 2);
-    let console = weigh(given.console, 4);
-    let source = weigh(given.source, 8);
-    let flight = weigh_word(given.flight, 16);
+    let time = u8::from(given.time.is_some()) << Bit::Time as u32;
+    let kind = u8::from(given.kind.is_some()) << Bit::Kind as u32;
+    let console = u8::from(given.console.is_some()) << Bit::Console as u32;
+    let source = u8::from(given.source.is_some()) << Bit::Source as u32;
+    let flight = u8::from(given.flight.is_some()) << Bit::Flight as u32;
     time + kind + console + source + flight
 }
 
-fn byte_length(field: Option<u8>) -> usize
-    ensures { result ≡ length (encode_byte field) }
+/// Adds a number, if it is present.
+fn put_number<N: Number>(field: Option<N>, bytes: &mut Encoded)
+    requires { array_vec_len bytes.old + N.WIDTH ≤ LONGEST }
+    ensures written { bytes.new.items ≡ bytes.old.items ++ N.encode field }
+    ensures short { array_vec_len bytes.new ≤ array_vec_len bytes.old + N.WIDTH }
 {
-    match field {
-        Some(_) => 1,
-        None => 0,
+    if let Some(number) = field {
+        number.put(bytes);
     }
 }
 
-fn four_length(field: Option<u32>) -> usize
-    ensures { result ≡ length (encode_four field) }
+/// Adds a flight word, if it is present: its length, then its bytes.
+fn put_word(field: Option<&[u8]>, bytes: &mut Encoded)
+    requires fits { word_fits (bytes_of field) ≡ true }
+    requires room { array_vec_len bytes.old + 9 ≤ LONGEST }
+    ensures { bytes.new.items ≡ bytes.old.items ++ encode_word (bytes_of field.entry) }
 {
-    match field {
-        Some(_) => 4,
-        None => 0,
+    if let Some(word) = field {
+        bytes.push(word.len() as u8);
+        bytes.try_extend_from_slice(word).unwrap();
     }
 }
 
-fn word_length(field: Option<&[u8]>) -> usize
-    requires { word_fits (bytes_of field) ≡ true }
-    ensures value { result ≡ length (encode_word (bytes_of field.entry)) }
-    ensures small { result ≤ 9 }
-{
-    match field {
-        Some(word) => 1 + word.len(),
-        None => 0,
-    }
-}
-
-/// The length of a record whose fields are in range.
-fn length_of(given: &Record<'_>) -> usize
+/// The bytes of a record, whose flight word, if there is one, is right.
+fn encoded(given: &Record<'_>) -> Encoded
     requires { word_fits (bytes_of given.now.flight) ≡ true }
-    ensures { result ≡ length (encode (value_of given.now)) }
+    ensures { result.items ≡ encode (value_of given.now) }
 {
-    let time = four_length(given.time);
-    let kind = byte_length(given.kind);
-    let console = byte_length(given.console);
-    let source = four_length(given.source);
-    let flight = word_length(given.flight);
-    1 + time + kind + console + source + flight
-}
-
-/// Writes the map byte and the fields at the start of the output, which has room for them.
-fn write_fields(given: &Record<'_>, map: u8, out: &mut [u8])
-    requires map_byte { map ≡ map_of (value_of given.now) }
-    requires fits { word_fits (bytes_of given.now.flight) ≡ true }
-    requires room { length (encode (value_of given.now)) ≤ length out.old }
-    ensures { out.new ≡ encode (value_of given.now) ++ drop (length (encode (value_of given.now))) out.old }
-{
-    let at = put_byte(Some(map), out, 0);
-    let at = put_four(given.time, out, at);
-    let at = put_byte(given.kind, out, at);
-    let at = put_byte(given.console, out, at);
-    let at = put_four(given.source, out, at);
-    let _ = put_word(given.flight, out, at);
+    let mut bytes = Encoded::new();
+    bytes.push(map_of(given));
+    put_number(given.time, &mut bytes);
+    put_number(given.kind, &mut bytes);
+    put_number(given.console, &mut bytes);
+    put_number(given.source, &mut bytes);
+    put_word(given.flight, &mut bytes);
+    bytes
 }
 
 /// The writer's answer and the output; `write` adds the laws.
@@ -140,19 +85,18 @@ fn write_checked(given: &Record<'_>, out: &mut [u8]) -> Result<usize, Refusal>
     ensures answer { result ≡ writing (value_of given.now) (length out.old) }
     ensures written { out.new ≡ output_after (value_of given.now) out.old result }
 {
-    let map = map_of(given);
-    if map == 0 {
+    if map_of(given) == 0 {
         return Err(Refusal::Map);
     }
     if !in_range(given) {
         return Err(Refusal::Field);
     }
-    let n = length_of(given);
-    if out.len() < n {
+    let bytes = encoded(given);
+    if out.len() < bytes.len() {
         return Err(Refusal::NoRoom);
     }
-    write_fields(given, map, out);
-    Ok(n)
+    out[..bytes.len()].copy_from_slice(bytes.as_slice());
+    Ok(bytes.len())
 }
 
 /// Writes the record at the start of the output and answers its length; refuses with 3 if no field is present, then

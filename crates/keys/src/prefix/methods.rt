@@ -17,7 +17,7 @@ fn low_bits(address: u32, bits: u8) -> u32
 
 impl Prefix {
     /// The prefix with this address and length; refused with 1 if `bits` is above 32 or a bit after the first `bits`
-    /// is set.
+    /// is set. No `TryFrom`, since of a pair of numbers it would not show which is which.
     pub fn make(address: u32, bits: u8) -> Result<Prefix, Refusal>
         ensures { result ≡ asked (prefix_of bits address) }
     {

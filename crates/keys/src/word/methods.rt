@@ -1,5 +1,5 @@
 //! Flight words made and read.
-ghost use Rattle.std.specs.Prelude.{◌≡◌, ◌-◌, ◌≤◌, true, ◌++◌, length, replicate, Some};
+ghost use Rattle.std.specs.Prelude.{◌≡◌, true, Some};
 ghost use Rattle.keys.specs.Words.{is_word};
 ghost use Rattle.keys.specs.Values.{asked, word_of, bytes_of};
 
@@ -7,43 +7,37 @@ use crate::refusal::Refusal;
 use crate::word::FlightWord;
 use crate::word::bytes::is_word;
 
-/// The word, then zeros up to 8 bytes.
-fn padded(word: &[u8]) -> [u8; 8]
-    requires { length word.now ≤ 8 }
-    ensures { result ≡ word.now ++ replicate (8 - length word.now) 0 }
-{
-    let mut bytes = [0u8; 8];
-    for (i, b) in word.iter().enumerate() {
-        bytes[i] = *b;
-    }
-    bytes
-}
+/// The word of these bytes; refused with 1 unless they are 1 to 8, each 0x20 to 0x5F.
+impl TryFrom<&[u8]> for FlightWord {
+    type Error = Refusal;
 
-impl FlightWord {
-    /// The word of bytes that make one.
-    fn stored(word: &[u8]) -> FlightWord
-        requires { is_word word.now ≡ true }
-        ensures { Some result ≡ word_of word.now }
-    {
-        FlightWord {
-            bytes: padded(word),
-            len: word.len() as u8,
-        }
-    }
+    ghost try_from_gives = { λ word r. r ≡ asked (word_of word.now) };
 
-    /// The word of these bytes; refused with 1 unless they are 1 to 8, each 0x20 to 0x5F.
-    pub fn make(word: &[u8]) -> Result<FlightWord, Refusal>
-        ensures { result ≡ asked (word_of word.now) }
-    {
+    fn try_from(word: &[u8]) -> Result<Self, Refusal> {
         if !is_word(word) {
             return Err(Refusal::OutOfRange);
         }
         Ok(FlightWord::stored(word))
     }
+}
+
+impl FlightWord {
+    /// The word of bytes that make one.
+    fn stored(word: &[u8]) -> Self
+        requires { is_word word.now ≡ true }
+        ensures { Some result ≡ word_of word.now }
+    {
+        let mut bytes = [0; 8];
+        bytes[..word.len()].copy_from_slice(word);
+        FlightWord {
+            bytes,
+            len: word.len() as u8,
+        }
+    }
 
     pub fn bytes(&self) -> &[u8]
         ensures { result.now ≡ bytes_of self.now }
     {
-        &self.bytes[0..usize::from(self.len)]
+        &self.bytes[..usize::from(self.len)]
     }
 }

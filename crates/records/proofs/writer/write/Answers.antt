@@ -4,10 +4,5 @@ use Rattle.records.specs.Values.{value_of}
 use Rattle.records.proofs.Rounds.{write_laws}
 use Rattle.records.proofs.writer.write.Goals as goal
 
-pub returns : goal.returns
-returns c =
-    record {
-      answer = c.write_checked.ensures.answer;
-      written = c.write_checked.ensures.written;
-      laws = write_laws (value_of c.args.given.now) (length c.args.out.now) _ c.write_checked.ensures.answer;
-    }
+pub returns-clause-laws : goal.returns-clause-laws
+returns-clause-laws c = write_laws (value_of c.args.given.now) (length c.args.out.now) _ c.write_checked.ensures.answer

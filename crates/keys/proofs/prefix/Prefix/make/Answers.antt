@@ -1,7 +1,8 @@
 -- The value made is the prefix of its address and length.
-use Rattle.std.proofs.Common.{refl}
-use Rattle.keys.proofs.Making.{makes_prefix}
+use Rattle.std.proofs.Common.{ap}
+use Rattle.keys.specs.Values.{asked}
+use Rattle.keys.proofs.Making.{prefix_made}
 use Rattle.keys.proofs.prefix.Prefix.make.Goals as goal
 
 pub returns : goal.returns
-returns c = makes_prefix c.args.bits c.args.address _ refl refl
+returns c = ap asked (prefix_made _)
