@@ -46,7 +46,7 @@ fn address(bits: u32) -> Ipv4Addr
 struct Quoted<'a>(&'a str);
 
 impl<'a> Quoted<'a> {
-    /// All bytes of a flight word are characters.
+    /// The word in quotes; all bytes of a flight word are characters.
     #[tactic(auto, using(crate::proofs::Texts::word_utf8))]
     fn new(word: &'a [u8]) -> Quoted<'a>
         requires { is_word word.now ≡ true }
@@ -108,7 +108,7 @@ impl fmt::Display for FaultLine {
 pub(crate) fn push_log(text: &mut String, log: &[u8]) -> Result<(), AllocError>
     ensures { OnOk result (string_bytes text.new ≡ string_bytes text.old ++ text_of (log_of log.now)) }
 {
-    // the last line tells it too, so `enumerate` would not do
+    // counted here, since the last line prints the number, which `enumerate` does not leave
     let mut count = 0;
     for item in Records::new(log) {
         match item {

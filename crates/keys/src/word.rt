@@ -8,7 +8,8 @@ ghost use Rattle.std.specs.Prelude.{◌≡◌, ◌-◌, ◌≤◌, length, take,
 ghost use Rattle.keys.specs.Words.{first_wrong};
 
 /// The word stands in the first `len` bytes; those after it are zero, so one word has one value. An array with its
-/// length, since a key is copied, and its memory is fixed.
+/// length, since a key is copied and its memory is fixed; and the kit's string in an array leaves its spare bytes open,
+/// so that one word would have many values.
 #[derive(Clone, Copy, Debug, PartialEq, Eq, PartialOrd, Ord, Hash)]
 pub struct FlightWord {
     bytes: [u8; 8],

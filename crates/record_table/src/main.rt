@@ -12,7 +12,8 @@ use records::writer::write;
 use std::alloc::{AllocError, Global};
 use std::io::{BufRead, BufReader};
 
-/// The value of an upper-case hexadecimal digit; of any other byte 0, where the library would take lower case too.
+/// The value of an upper-case hexadecimal digit. Any other byte counts as 0, so this answers no Option; and the
+/// library's readings take lower case too.
 fn digit(byte: u8) -> u8
     ensures { result < 16 }
 {

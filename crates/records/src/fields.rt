@@ -1,5 +1,6 @@
 //! The fields of a record, read one after another.
-ghost use Rattle.std.specs.Prelude.{◌≡◌, ◌≤◌, length, slice_index};
+ghost use Rattle.std.specs.Prelude.{◌≡◌, ◌≤◌, false, length, slice_index};
+ghost use Rattle.std.specs.Range.{range_inclusive_start, range_inclusive_end, range_inclusive_exhausted};
 ghost use Rattle.records.specs.Fields.{number_at, word_at};
 ghost use Rattle.records.specs.Reading.{bit, weight_of};
 ghost use Rattle.records.specs.Values.{placed, word_read};
@@ -8,6 +9,7 @@ use crate::fault::ReadFault;
 use crate::map::Bit;
 use crate::number::Number;
 use keys::word::bytes::first_wrong;
+use std::ops::RangeInclusive;
 
 /// The input, which begins with the map byte, and the place of the next field.
 #[derive(Drop)]
@@ -26,14 +28,14 @@ impl<'a> Fields<'a> {
         (self.input[0] >> field as u32) & 1 == 1
     }
 
-    /// The next field, a number from `low` to `high`, if the map has its bit.
+    /// The next field, a number in the range, if the map has its bit.
     pub(crate) fn number<N: Number>(
         &mut self,
         field: Bit,
-        low: N,
-        high: N,
+        range: RangeInclusive<N>,
     ) -> Result<Option<N>, ReadFault>
-        ensures answer { placed result self.new.at ≡ number_at N.WIDTH N.value_at N.at_most (bit (slice_index self.old.input.now 0) (weight_of field)) low high self.old.input.now self.old.at }
+        requires { range_inclusive_exhausted range ≡ false }
+        ensures answer { placed result self.new.at ≡ number_at N.WIDTH N.value_at N.at_most (bit (slice_index self.old.input.now 0) (weight_of field)) (range_inclusive_start range) (range_inclusive_end range) self.old.input.now self.old.at }
         ensures input { self.new.input ≡ self.old.input }
     {
         if !self.has(field) {
@@ -43,7 +45,7 @@ impl<'a> Fields<'a> {
             return Err(ReadFault::CutOff(self.input.len()));
         }
         let value = N::read(self.input, self.at);
-        if !(low..=high).contains(&value) {
+        if !range.contains(&value) {
             return Err(ReadFault::Field(self.at));
         }
         self.at += N::WIDTH;
@@ -55,7 +57,7 @@ impl<'a> Fields<'a> {
         ensures answer { placed (word_read result) self.new.at ≡ word_at (bit (slice_index self.old.input.now 0) (weight_of field)) self.old.input.now self.old.at }
         ensures input { self.new.input ≡ self.old.input }
     {
-        let Some(length) = self.number::<u8>(field, 1, 8)? else {
+        let Some(length) = self.number::<u8>(field, 1..=8)? else {
             return Ok(None);
         };
         let length = usize::from(length);

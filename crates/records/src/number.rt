@@ -15,7 +15,8 @@ pub(crate) const LONGEST: usize = 20;
 /// A record, or its beginning, as bytes.
 pub(crate) type Encoded = ArrayVec<u8, LONGEST>;
 
-/// The ghost members are its count of bytes, its value at a place, the order of values, and a field as bytes.
+/// The ghost members are its count of bytes, its value at a place, the order of values, and a field as bytes; the laws,
+/// that this is the order of `Ord`, that a missing field has no bytes, and that a number has `WIDTH`.
 pub(crate) trait Number: Copy + Ord {
     ghost WIDTH: { ℕ };
 
@@ -32,7 +33,7 @@ pub(crate) trait Number: Copy + Ord {
         requires { at + WIDTH ≤ length input.now }
         ensures { result ≡ value_at input.now at };
 
-    /// Adds the number.
+    /// Adds the number to the bytes.
     fn put(self, bytes: &mut Encoded)
         requires { array_vec_len bytes.old + WIDTH ≤ LONGEST }
         ensures { bytes.new.items ≡ bytes.old.items ++ encode (Some self) };

@@ -16,10 +16,10 @@ fn read_fields(input: &[u8]) -> Result<(Record<'_>, usize), ReadFault>
 {
     let mut fields = Fields { input, at: 1 };
     let record = Record {
-        time: fields.number(Bit::Time, 0, 86_399)?,
-        kind: fields.number(Bit::Kind, 0, 63)?,
-        console: fields.number(Bit::Console, 1, 250)?,
-        source: fields.number(Bit::Source, 0, u32::MAX)?,
+        time: fields.number(Bit::Time, 0..=86_399)?,
+        kind: fields.number(Bit::Kind, 0..=63)?,
+        console: fields.number(Bit::Console, 1..=250)?,
+        source: fields.number(Bit::Source, 0..=u32::MAX)?,
         flight: fields.word(Bit::Flight)?,
     };
     Ok((record, fields.at))

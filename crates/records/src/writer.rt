@@ -1,5 +1,6 @@
 //! The writer: a record at the start of the output, or a refusal that leaves the output as it was.
-ghost use Rattle.std.specs.Prelude.{◌≡◌, ◌+◌, ◌≤◌, true, ◌++◌, length};
+ghost use Rattle.std.specs.Prelude.{◌≡◌, ◌+◌, ◌≤◌, true, false, ◌++◌, length};
+ghost use Rattle.std.specs.Range.{range_inclusive_start, range_inclusive_end, range_inclusive_exhausted};
 ghost use Rattle.arrayvec.specs.ArrayVec.{array_vec_len};
 ghost use Rattle.records.specs.Values.{bytes_of, value_of};
 ghost use Rattle.records.specs.Writing.{map_of, between, word_fits, in_range, encode_word, encode, writing, output_after};
@@ -11,22 +12,24 @@ use crate::number::{Encoded, Number};
 use crate::record::Record;
 use keys::refusal::Refusal;
 use keys::word::bytes::is_word;
+use std::ops::RangeInclusive;
 
-/// Whether a number that is present lies from `low` to `high`.
-fn within<N: Number>(field: Option<N>, low: N, high: N) -> bool
-    ensures { result ≡ between N.at_most low high field }
+/// Whether a number that is present lies in the range.
+fn within<N: Number>(field: Option<N>, range: RangeInclusive<N>) -> bool
+    requires { range_inclusive_exhausted range ≡ false }
+    ensures { result ≡ between N.at_most (range_inclusive_start range) (range_inclusive_end range) field }
 {
-    field.is_none_or(|number| (low..=high).contains(&number))
+    field.is_none_or(|number| range.contains(&number))
 }
 
 /// Whether every field is in its range.
 fn in_range(given: &Record<'_>) -> bool
     ensures { result ≡ in_range (value_of given.now) }
 {
-    within(given.time, 0, 86_399)
-        && within(given.kind, 0, 63)
-        && within(given.console, 1, 250)
-        && within(given.source, 0, u32::MAX)
+    within(given.time, 0..=86_399)
+        && within(given.kind, 0..=63)
+        && within(given.console, 1..=250)
+        && within(given.source, 0..=u32::MAX)
         && given.flight.is_none_or(is_word)
 }
 

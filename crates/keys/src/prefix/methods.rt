@@ -6,7 +6,7 @@ ghost use Rattle.keys.specs.Values.{asked, prefix_of, containing_of, OnlyContain
 use crate::prefix::Prefix;
 use crate::refusal::Refusal;
 
-/// The bits after the first `bits`, as a number.
+/// The bits after the first `bits`, as a number. It takes the parts of a prefix, since there is none yet.
 fn low_bits(address: u32, bits: u8) -> u32
     requires { bits ≤ 32 }
     ensures { result ≡ low_bits bits address }

@@ -8,7 +8,8 @@ fn is_word_byte(byte: u8) -> bool
     (0x20..=0x5F).contains(&byte)
 }
 
-/// The place of the first byte that no flight word has, if there is one; the other clauses say which that is.
+/// The place of the first byte that no flight word has, if there is one. `value` gives it by the definition
+/// `first_wrong`, and `first` says what that is.
 #[tactic(auto, using(crate::proofs::Lexical::wrong_value, crate::proofs::Lexical::first_is))]
 pub fn first_wrong(bytes: &[u8]) -> Option<usize>
     ensures place { result ≡ wrong_place bytes.now }
