@@ -1,2 +1,3 @@
 pub mod Lexical
 pub mod Making
+pub mod SortedLemmas

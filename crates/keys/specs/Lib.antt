@@ -8,3 +8,4 @@ pub mod KindOrders
 pub mod KindOrdersLemmas
 pub mod Same
 pub mod Totals
+pub mod Sorted

@@ -8,8 +8,9 @@ use Rattle.keys.specs.Helds.{less_held}
 use Rattle.keys.specs.declared.held.Held.{Held}
 use Rattle.keys.specs.declared.held.Held.TheVariants.{Real, Dummy}
 use Rattle.keys.specs.KindOrdersLemmas.{held_total}
+use Rattle.keys.specs.Sorted.{Rising}
 use Rattle.model.specs.Contents.{Content, reals, holds}
-use Rattle.model.specs.Laws.{Rising, HoldsK}
+use Rattle.model.specs.Laws.{HoldsK}
 use Rattle.model.specs.Listing.{valued, reaches, listed, beside, value_of, IsList, OneList}
 use Rattle.model.proofs.Rows.{same_rows}
 use Rattle.model.proofs.Valued.{reaches_true, reaches_false, Rising-filter, Rising-valued, beside_kept, beside-valued}

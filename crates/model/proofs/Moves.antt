@@ -1,18 +1,19 @@
 -- What raising, lowering and replacing do to the held keys, by sums; and that the sketch's rule does one of the three.
-use Rattle.std.proofs.Common.{◌≡◌, ℕ, ◌+◌, ◌-◌, ◌≤◌, Bool, true, false, cond, eqb, ◌⊎◌, [], ◌∷◌, map, sym, refl, ◌∙◌, subst, inl, inr, arith}
+use Rattle.std.proofs.Common.{◌≡◌, ◌≢◌, ℕ, ◌+◌, ◌-◌, ◌≤◌, Bool, true, false, cond, eqb, ◌⊎◌, [], ◌∷◌, map, sym, refl, ◌∙◌, subst, inl, inr, arith}
 use Rattle.std.specs.List.{AllByRecursion}
 use Rattle.std.proofs.lemmas.Bool.{both_ways, eqb-true, eqb-false, or_parts, or_cases, cond_both}
 use Rattle.std.proofs.lemmas.Bool.Decides.{nat_tests}
-use Rattle.std.proofs.ByRecursion.{All-map, All-weaker}
+use Rattle.std.proofs.ByRecursion.{All-map}
 use Rattle.keys.specs.Orders.{TotalOrder, same}
 use Rattle.keys.specs.Helds.{less_held}
 use Rattle.keys.specs.declared.held.Held.{Held}
 use Rattle.keys.specs.declared.held.Held.TheVariants.{Real}
 use Rattle.keys.specs.KindOrdersLemmas.{same_equal, not_both, held_total}
+use Rattle.keys.specs.Sorted.{Rising, insert}
+use Rattle.keys.proofs.SortedLemmas.{rising_insert}
 use Rattle.model.specs.Contents.{Counts, Content, is_held}
-use Rattle.model.specs.Laws.{Rising}
 use Rattle.model.specs.Plans.{raised}
-use Rattle.model.specs.Sketches.{some_zero, leave, newcomer, lowered, insert, replaced, sketch_rule}
+use Rattle.model.specs.Sketches.{some_zero, leave, newcomer, lowered, replaced, sketch_rule}
 use Rattle.model.proofs.Sums.{sum_of, sum_same, sum_add, sum-map, bit, indicator, count_at, occurs, counted, OneOrTwo, indicator_self, one_or_two, count_at_self, absent_counts_0, above_absent, occurs_once, all_occurs, held_occurs, unheld_absent}
 
 -- the same keys; and z in place of x
@@ -61,10 +62,6 @@ all_leave P [] p = tt
 all_leave {X} P (e ∷ h) p = cond_both _ h (e ∷ leave h) (AllByRecursion (λ (e : X × ℕ). P e.0)) (λ _. p.1) (λ _. (p.0, all_leave P h p.1))
 
 module _ {X : Type 0} (less : X → X → Bool) (order : TotalOrder less) where
-  all_insert : (P : X → Type 0) (e : X × ℕ) (h : Counts X) → P e.0 → AllByRecursion (λ (f : X × ℕ). P f.0) h → AllByRecursion (λ (f : X × ℕ). P f.0) (insert less e h)
-  all_insert P e [] q p = (q, tt)
-  all_insert P e (f ∷ h) q p = cond_both _ (e ∷ f ∷ h) (f ∷ insert less e h) (AllByRecursion (λ (f : X × ℕ). P f.0)) (λ _. (q, p)) (λ _. (p.0, all_insert P e h q p.1))
-
   pub Rising-map : (f : X → ℕ → ℕ) (h : Counts X) → Rising less h → Rising less (map (λ (e : X × ℕ). (e.0, f e.0 e.1)) h)
   Rising-map f [] p = tt
   Rising-map f (e ∷ h) p = (All-map (λ (g : X × ℕ). less e.0 g.0 ≡ true) (λ (g : X × ℕ). (g.0, f g.0 g.1)) h p.0, Rising-map f h p.1)
@@ -73,20 +70,13 @@ module _ {X : Type 0} (less : X → X → Bool) (order : TotalOrder less) where
   Rising-leave [] p = tt
   Rising-leave (e ∷ h) p = cond_both _ h (e ∷ leave h) (Rising less) (λ _. p.1) (λ _. (all_leave (λ x. less e.0 x ≡ true) h p.0, Rising-leave h p.1))
 
-  Rising-insert : (e : X × ℕ) (h : Counts X) → occurs less h e.0 ≡ 0 → Rising less h → Rising less (insert less e h)
+  none_is : (x : X) (h : Counts X) → occurs less h x ≡ 0 → AllByRecursion (λ (f : X × ℕ). x ≢ f.0) h
   unfolding sum_of occurs
-  Rising-insert e [] s p = (tt, tt)
-  Rising-insert e (f ∷ h) s p =
-      cond_both (less x f.0) (e ∷ f ∷ h) (f ∷ insert less e h) (Rising less)
-      (λ q. ((q, All-weaker (λ (g : X × ℕ). less f.0 g.0 ≡ true) (λ g. less x g.0 ≡ true) (λ g t. order.transitive x f.0 g.0 q t) h p.0), p))
-      (λ q. (all_insert (λ y. less f.0 y ≡ true) e h (after (less f.0 x) refl q) p.0, Rising-insert e h (omega arith) p.1))
-    where
-      x : X
-      x = e.0
+  none_is x [] s = tt
+  none_is x (f ∷ h) s = (λ q. omega (arith, s, subst (λ (z : X). indicator less z x ≡ 1) q (indicator_self less order x)), none_is x h (omega arith))
 
-      after : (b : Bool) → less f.0 x ≡ b → less x f.0 ≡ false → less f.0 x ≡ true
-      after true q r = q
-      after false q r = absurd (omega (arith, s, subst (λ (z : X). indicator less z x ≡ 1) (order.connected x f.0 r q) (indicator_self less order x)))
+  Rising-insert : (e : X × ℕ) (h : Counts X) → occurs less h e.0 ≡ 0 → Rising less h → Rising less (insert less e h)
+  Rising-insert e h s p = rising_insert less order e h p (none_is e.0 h s)
 
   sum-insert : (w : X → ℕ → ℕ) (e : X × ℕ) (h : Counts X) → sum_of w (insert less e h) ≡ sum_of w h + w e.0 e.1
   unfolding sum_of

@@ -8,10 +8,10 @@ use Rattle.keys.specs.Helds.{less_held}
 use Rattle.keys.specs.declared.held.Held.{Held}
 use Rattle.keys.specs.declared.held.Held.TheVariants.{Real}
 use Rattle.keys.specs.KindOrdersLemmas.{held_total}
+use Rattle.keys.specs.Sorted.{Rising}
 use Rattle.model.specs.Contents.{Counts, Content, is_held, count}
 use Rattle.model.specs.Plans.{Plan, after_from}
 use Rattle.model.specs.Neighbours.{only, CaseOne, CaseAll, Neighbours}
-use Rattle.model.specs.Laws.{Rising}
 use Rattle.model.proofs.Sums.{sum_of, occurs, counted, missing, Once, indicator_self, indicator_other, count_at_self, occurs_once, held_occurs, unheld_absent, count_counted, absent_counts_0, alike}
 use Rattle.model.proofs.Moves.{Move, raises, lowers, replaces, Step}
 use Rattle.model.proofs.Missing.{missing_sym, missing_self, missing_kept, missing_swap_first}

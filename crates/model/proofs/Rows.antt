@@ -4,8 +4,8 @@ use Rattle.std.specs.List.{AllByRecursion}
 use Rattle.std.proofs.lemmas.Bool.{both_ways}
 use Rattle.keys.specs.Orders.{TotalOrder, same}
 use Rattle.keys.specs.KindOrdersLemmas.{same_self, same_equal, not_both}
+use Rattle.keys.specs.Sorted.{Rising}
 use Rattle.model.specs.Contents.{Counts, is_held, count}
-use Rattle.model.specs.Laws.{Rising}
 use Rattle.model.specs.Listing.{beside}
 
 module _ {X Y : Type 0} (less : X → X → Bool) (order : TotalOrder less) where

@@ -6,9 +6,10 @@ use Rattle.keys.specs.Helds.{less_held}
 use Rattle.keys.specs.declared.held.Held.{Held}
 use Rattle.keys.specs.declared.held.Held.TheVariants.{Real, Dummy}
 use Rattle.keys.specs.KindOrdersLemmas.{held_total}
+use Rattle.keys.specs.Sorted.{Rising}
 use Rattle.model.specs.Contents.{Content}
 use Rattle.model.specs.Plans.{Plan, after_from}
-use Rattle.model.specs.Laws.{Rising, entries_of}
+use Rattle.model.specs.Laws.{entries_of}
 use Rattle.model.proofs.Sums.{sum_of, indicator, occurs, counted, Once, OneOrTwo, one_or_two, absent_counts_0, occurs_once}
 use Rattle.model.proofs.Moves.{Move, raises, lowers, replaces, Step}
 

@@ -7,8 +7,9 @@ use Rattle.keys.specs.Orders.{TotalOrder}
 use Rattle.keys.specs.Helds.{less_held}
 use Rattle.keys.specs.declared.held.Held.{Held}
 use Rattle.keys.specs.declared.held.Held.TheVariants.{Real, Dummy}
+use Rattle.keys.specs.Sorted.{Rising}
 use Rattle.model.specs.Contents.{is_held}
-use Rattle.model.specs.Laws.{Rising, Lawful}
+use Rattle.model.specs.Laws.{Lawful}
 use Rattle.model.specs.Sketches.{dummies_from, sketch, SketchKeeps}
 use Rattle.model.proofs.Sums.{sum_of}
 use Rattle.model.proofs.Moves.{sketch_step}

@@ -6,8 +6,8 @@ use Rattle.std.specs.List.{AllByRecursion}
 use Rattle.std.proofs.lemmas.Bool.{both_ways}
 use Rattle.keys.specs.Orders.{TotalOrder, same}
 use Rattle.keys.specs.KindOrdersLemmas.{same_self, same_equal}
+use Rattle.keys.specs.Sorted.{Rising}
 use Rattle.model.specs.Contents.{Counts, is_held, count, total}
-use Rattle.model.specs.Laws.{Rising}
 
 module _ {X : Type 0} where
   -- the sum of w over keys and counts

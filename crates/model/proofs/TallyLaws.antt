@@ -13,9 +13,10 @@ use Rattle.keys.specs.declared.held.Held.TheVariants.{Real, Dummy}
 use Rattle.keys.specs.Same.{same_event}
 use Rattle.keys.proofs.Making.{event_made}
 use Rattle.keys.specs.KindOrdersLemmas.{event_total, same_self, same_equal, held_total}
+use Rattle.keys.specs.Sorted.{Rising}
 use Rattle.model.specs.Contents.{Counts, Content, is_held, holds}
 use Rattle.model.specs.Plans.{Entries, raised}
-use Rattle.model.specs.Laws.{Rising, Lawful}
+use Rattle.model.specs.Laws.{Lawful}
 use Rattle.model.specs.Tallies.{at_zero_before, kinds_from, tally, TallyCounts, TallyKeeps}
 use Rattle.model.proofs.Sums.{sum_of, held_like}
 use Rattle.model.proofs.Moves.{raises, raised_keys, raised_sums, Rising-map}

@@ -6,8 +6,8 @@ use Rattle.std.proofs.lemmas.Int.{ints}
 use Rattle.std.proofs.ByRecursion.{all_kept_by}
 use Rattle.keys.specs.Orders.{TotalOrder, same}
 use Rattle.keys.specs.KindOrdersLemmas.{same_equal}
+use Rattle.keys.specs.Sorted.{Rising}
 use Rattle.model.specs.Contents.{Counts, is_held, count}
-use Rattle.model.specs.Laws.{Rising}
 use Rattle.model.specs.Listing.{valued, reaches, draw, beside}
 use Rattle.model.specs.Handing.{OffByOne, OneChanged}
 use Rattle.model.proofs.Rows.{above_none, same_rows}

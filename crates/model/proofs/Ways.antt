@@ -7,9 +7,10 @@ use Rattle.keys.specs.Orders.{TotalOrder, same}
 use Rattle.keys.specs.Helds.{less_held}
 use Rattle.keys.specs.declared.held.Held.{Held}
 use Rattle.keys.specs.KindOrdersLemmas.{same_self, same_equal, held_total}
+use Rattle.keys.specs.Sorted.{Rising}
 use Rattle.model.specs.Contents.{Counts, Content, is_held, count}
 use Rattle.model.specs.Neighbours.{only, only_in}
-use Rattle.model.specs.Laws.{Rising, HoldsK}
+use Rattle.model.specs.Laws.{HoldsK}
 use Rattle.model.specs.Handing.{Way}
 use Rattle.model.proofs.Sums.{length-sum, above_absent, absent_unheld, occurs_once}
 use Rattle.model.proofs.Missing.{missing_sym}

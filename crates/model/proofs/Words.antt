@@ -7,8 +7,8 @@ use Rattle.keys.specs.Helds.{less_held}
 use Rattle.keys.specs.declared.held.Held.{Held}
 use Rattle.keys.specs.declared.held.Held.TheVariants.{Real}
 use Rattle.keys.specs.KindOrdersLemmas.{held_total}
+use Rattle.keys.specs.Sorted.{Rising}
 use Rattle.model.specs.Contents.{Content, holds, count, count_of}
-use Rattle.model.specs.Laws.{Rising}
 use Rattle.model.specs.Sketches.{sketch_rule}
 use Rattle.model.specs.Taking.{Raises, Lowers, Replaces, Takes, Ruled}
 use Rattle.model.proofs.Sums.{indicator, occurs, counted, Once, OneOrTwo, indicator_self, indicator_other, one_or_two, occurs_once, held_occurs, occurs_held, absent_unheld, held_like, count_counted, absent_counts_0, alike}

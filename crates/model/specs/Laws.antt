@@ -1,17 +1,13 @@
 -- The four laws of summaries, as one record over a plan.
-use Rattle.std.specs.Prelude.{◌≡◌, ℕ, ◌+◌, ◌*◌, ◌≤◌, Bool, true, cond, List, [], ◌∷◌, ◌++◌, length, ◌≢◌}
+use Rattle.std.specs.Prelude.{◌≡◌, ℕ, ◌+◌, ◌*◌, ◌≤◌, Bool, cond, List, [], ◌∷◌, ◌++◌, length, ◌≢◌}
 use Rattle.std.specs.List.{AllByRecursion}
 use Rattle.keys.specs.Orders.{same}
 use Rattle.keys.specs.Helds.{less_held}
+use Rattle.keys.specs.Sorted.{Rising}
 use Rattle.keys.specs.declared.held.Held.TheVariants.{Real, Dummy}
 use Rattle.model.specs.Contents.{Content, count_of, total}
 use Rattle.model.specs.Plans.{Plan, after, Entries}
 use Rattle.model.specs.Neighbours.{Neighbours}
-
--- each key is less than all that follow
-abbrev pub Rising : {X Y : Type 0} → (X → X → Bool) → List (X × Y) → Type 0
-Rising less [] = Unit {0}
-Rising {X} {Y} less (e ∷ h) = AllByRecursion (λ (f : X × Y). less e.0 f.0 ≡ true) h × Rising less h
 
 -- no key stands twice
 abbrev pub Different : {X Y : Type 0} → List (X × Y) → Type 0

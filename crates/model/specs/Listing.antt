@@ -4,8 +4,9 @@ use Rattle.keys.specs.Orders.{TotalOrder, same}
 use Rattle.keys.specs.Helds.{less_held}
 use Rattle.keys.specs.declared.held.Held.{Held}
 use Rattle.keys.specs.declared.held.Held.TheVariants.{Real}
+use Rattle.keys.specs.Sorted.{Rising}
 use Rattle.model.specs.Contents.{Counts, Content, holds, count_of, reals}
-use Rattle.model.specs.Laws.{Rising, HoldsK}
+use Rattle.model.specs.Laws.{HoldsK}
 
 -- Each key with its value: its count plus the shared draw plus its own draw. The draws belong to the held keys in key
 -- order, dummies included.

@@ -3,9 +3,9 @@ use Rattle.std.specs.Prelude.{◌≡◌, ◌+◌, Bool, true, false, ◌⊎◌, 
 use Rattle.keys.specs.Orders.{TotalOrder}
 use Rattle.keys.specs.Helds.{less_held}
 use Rattle.keys.specs.declared.held.Held.{Held}
-use Rattle.model.specs.Contents.{Content, holds, count_of}
-use Rattle.model.specs.Laws.{Rising}
+use Rattle.keys.specs.Sorted.{Rising}
 use Rattle.keys.specs.declared.held.Held.TheVariants.{Real}
+use Rattle.model.specs.Contents.{Content, holds, count_of}
 use Rattle.model.specs.Sketches.{sketch_rule}
 
 -- the content C becomes D by taking the key x
