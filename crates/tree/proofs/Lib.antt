@@ -1,0 +1,10 @@
+pub mod Cells
+pub mod Relinking
+pub mod Inserting
+pub mod Lists
+pub mod Listed
+pub mod Removing
+pub mod Placing
+pub mod Trees
+pub mod Blanking
+pub mod Revaluing
