@@ -1,5 +1,5 @@
-//! Tests of keys, records and the text of a log on worked examples and edge values; `record_table` has the many cases
-//! of the reader and the writer. Rests on keys, records and dump.
+//! Tests of keys, records, the text of a log and trees on worked examples and edge values; `record_table` has the many
+//! cases of the reader and the writer, `tree_table` those of a tree. Rests on keys, records, dump and tree.
 #![tactic(auto)]
 
 #[cfg(test)]
@@ -8,6 +8,8 @@ mod kinds;
 mod orders;
 #[cfg(test)]
 mod torn_logs;
+#[cfg(test)]
+mod trees;
 #[cfg(test)]
 mod worked_records;
 #[cfg(test)]
