@@ -4,7 +4,7 @@ use Rattle.std.proofs.lemmas.Bool.Decides.{nat_tests}
 use Rattle.std.proofs.lemmas.Bool.{cases_eq, cases_lt}
 use Rattle.std.proofs.lemmas.Option.{slice_get_within, slice_get-get_or}
 use Rattle.tree.specs.declared.cell.Cell.{Cell}
-use Rattle.tree.specs.declared.cell.Cell.TheVariants.{Used}
+use Rattle.tree.specs.declared.cell.Cell.TheVariants.{Blank, Used}
 use Rattle.tree.specs.declared.cell.Node.{Node}
 use Rattle.tree.specs.Shapes.{Shape, leaf, node, link_of, size, uses, one_at, Stands, shape_from, shape_within, shape_at, LiesAs, Lies, Opened}
 
@@ -127,6 +127,10 @@ module _ {K V : Type 0} where
   unfolding Lies
   reads cs at h = reads_as cs at (shape_at cs (Some at)) h
 
+  -- so its cell is there
+  pub lies_within : (cs : List (Cell K V)) (at : ℕ) → Lies cs (Some at) → at < length cs
+  lies_within cs at h = slice_get_within cs at _ (reads cs at h).1
+
   opened_as : (cs : List (Cell K V)) (at : ℕ) (n : Node K V) (t : Shape K V) → LiesAs cs (Some at) t → slice_get cs at ≡ Some (Used n) → shape_at cs (Some at) ≡ t → Opened cs at n
   opened_as cs at n leaf h read e = absurd (let l = h.linked in cc)
   opened_as cs at n (node l i k v u) h read e =
@@ -152,9 +156,14 @@ module _ {K V : Type 0} where
   unfolding Lies
   opened cs at n h read = opened_as cs at n (shape_at cs (Some at)) h read refl
 
+  -- and what is read there is not blank
+  pub not_blank : (cs : List (Cell K V)) (at : ℕ) (x : Cell K V) → Lies cs (Some at) → x ≡ get_or cs at x → x ≡ Blank → ⊥
+  not_blank cs at x h e is =
+      let r = reads cs at h in
+      let s = sym r.1 ∙ slice_get-get_or cs at x (lies_within cs at h) ∙ ap Some (sym e ∙ is) in
+      absurd cc
+
   -- by what is read at the root
   pub opened_read : (cs : List (Cell K V)) (at : ℕ) (n : Node K V) (x : Cell K V) → Lies cs (Some at) → x ≡ get_or cs at x → x ≡ Used n → Opened cs at n
   opened_read cs at n x h e is =
-      let r = reads cs at h in
-      let within = slice_get_within cs at _ r.1 in
-      opened cs at n h (slice_get-get_or cs at x within ∙ ap Some (sym e ∙ is))
+      opened cs at n h (slice_get-get_or cs at x (lies_within cs at h) ∙ ap Some (sym e ∙ is))

@@ -51,4 +51,4 @@ module _ {K V : Type 0} where
       put_right above not_below b =
           rw (e, o.is, not_below, above) (relink_right cs ds root n o (Some i) (Some at) None _ (fresh cs (Some root) at (subst (Lies cs) e h) blank) b)
 
-pub ruleset inserting = (shape_none, slice_get_within, put_none, put_left, put_right)
+pub ruleset inserting = (shape_none, put_none, put_left, put_right)

@@ -1,12 +1,14 @@
 -- A whole tree after each operation.
-use Rattle.std.proofs.Common.{◌≡◌, ℕ, zero, suc, ◌+◌, ◌-◌, ◌<◌, ◌≤◌, ◌^◌, Bool, cond, List, [], ◌∷◌, ◌++◌, Option, Some, None, length, length-append, replicate, take, min, drop, slice_get, slice_set, inl, inr, refl, sym, ap, subst, ◌∙◌, arith}
+use Rattle.std.proofs.Common.{◌≡◌, ℕ, zero, suc, ◌+◌, ◌-◌, ◌<◌, ◌≤◌, ◌^◌, Bool, true, cond, List, [], ◌∷◌, ◌++◌, Option, Some, None, length, length-append, replicate, take, min, drop, slice_get, slice_set, inl, inr, refl, sym, ap, subst, ◌∙◌, arith}
 use Rattle.std.proofs.Math.ListN.{length-replicate, length-set}
 use Rattle.std.proofs.lemmas.List.{length-take-le}
 use Rattle.std.specs.List.{AllByRecursion}
 use Rattle.std.proofs.lemmas.List.Elements.{All-from_recursion}
 use Rattle.std.specs.Option.{option_map}
 use Rattle.std.proofs.lemmas.Bool.{cases_eq, cases_lt}
+use Rattle.std.proofs.lemmas.Bool.Decides.{nat_tests}
 use Rattle.std.proofs.lemmas.Option.{slice_get_past}
+use Rattle.std.proofs.lemmas.Grind.{common_steps}
 use Rattle.keys.specs.Orders.{TotalOrder, same}
 use Rattle.keys.specs.Sorted.{Rising}
 use Rattle.tree.specs.declared.cell.Cell.{Cell}
@@ -14,7 +16,7 @@ use Rattle.tree.specs.declared.cell.Cell.TheVariants.{Blank}
 use Rattle.tree.specs.Entries.{Kept, Entries, item, kept_of, with_key, revalued, with_new_value, without_key}
 use Rattle.tree.specs.Shapes.{Shape, leaf, node, uses, size, one_at, entries, shape_at, Stands, Lies}
 use Rattle.tree.specs.Operations.{seek, put, change, cut, place, Becomes}
-use Rattle.tree.specs.Trees.{Arranged, OthersStay, IsTree, view_of, in_cell}
+use Rattle.tree.specs.Trees.{View, is_free, Arranged, OthersStay, IsTree, view_of, in_cell}
 use Rattle.tree.proofs.Cells.{leaf_lies, size_most, stands_within, one_at_itself, shape_none, shape_is, one_at_here, one_at_other}
 use Rattle.tree.proofs.Placing.{place_is}
 use Rattle.tree.proofs.Relinking.{set_same, set_other, lies_kept}
@@ -35,6 +37,10 @@ module _ {K V : Type 0} (less : K → K → Bool) (own len : ℕ) (cs : List (Ce
   pub tree_lies : IsTree less own len cs r → Lies cs r
   unfolding IsTree Lies
   tree_lies t = t.lies
+
+  pub tree_room : IsTree less own len cs r → own ≤ length cs
+  unfolding IsTree
+  tree_room t = t.room
 
   pub tree_seek : (q : K) → IsTree less own len cs r → kept_of less q (entries (shape_at cs r)) ≡ seek less q (shape_at cs r)
   unfolding IsTree
@@ -96,6 +102,9 @@ place_at cs r j k v e = sym (place_is (shape_at cs r) j) ∙ e
 
 pub place_past : {K V : Type 0} (cs : List (Cell K V)) (r : Option ℕ) (j : ℕ) → size (shape_at cs r) ≤ j → option_map item (slice_get (entries (shape_at cs r)) j) ≡ None
 place_past cs r j past = ap (option_map item) (slice_get_past (entries (shape_at cs r)) j (omega (arith, size_is (shape_at cs r))))
+
+free_inside : {K V : Type 0} (v : View K V) (at : ℕ) → true ≡ is_free v at → at < v.own
+free_inside v at free = elim (cases_lt at v.own) [ inl h ↦ h | inr h ↦ absurd (grind (arith, nat_tests)) ]
 
 -- what is known of a tree that stands for these entries after an operation
 record Next {K V : Type 0} (less : K → K → Bool) (own : ℕ) (cs ds : List (Cell K V)) (r s : Option ℕ) (list : Entries K V) : Type 0 where
@@ -163,13 +172,6 @@ module _ {K V : Type 0} (less : K → K → Bool) (own len : ℕ) (cs ds : List 
   insert_length : length with_new ≡ len + 1
   insert_length = omega (arith, length_insert less new (entries (shape_at cs r)), tree_len less own len cs r t)
 
-  pub insert_entries : entries (shape_at ds s) ≡ with_key less q w at (entries (shape_at cs r))
-  insert_entries = insert_next.is
-
-  pub insert_lookups : (p : K) → kept_of less p (entries (shape_at ds s)) ≡ cond (same less p q) (Some (record { value = w; cell = at })) (kept_of less p (entries (shape_at cs r)))
-  unfolding IsTree
-  insert_lookups p = ap (kept_of less p) insert_entries ∙ lookup_insert less t.ordered new p (entries (shape_at cs r)) insert_none
-
   pub insert_tree : IsTree less own (len + 1) ds s
   insert_tree = subst (λ n. IsTree less own n ds s) insert_length insert_next.tree
 
@@ -180,9 +182,6 @@ module _ {K V : Type 0} (less : K → K → Bool) (own len : ℕ) (cs ds : List 
   pub insert_arranged : Arranged less (view_of own ds s)
   insert_arranged = insert_next.arranged
 
-  pub insert_others : OthersStay (view_of own cs r) (view_of own ds s)
-  insert_others = insert_next.others
-
 -- a value changed
 module _ {K V : Type 0} (less : K → K → Bool) (own len : ℕ) (cs ds : List (Cell K V)) (r : Option ℕ) (q : K) (w : V)
     (t : IsTree less own len cs r) (b : Becomes cs ds r r None None (change less q w (shape_at cs r))) where
@@ -192,13 +191,6 @@ module _ {K V : Type 0} (less : K → K → Bool) (own len : ℕ) (cs ds : List 
       (change_is less t.ordered q w (shape_at cs r) t.rising) (rising_with_value less t.ordered q w (entries (shape_at cs r)) t.rising)
       (λ j past. refl) (λ j. omega (arith, b.lies.apart j)) (λ j. omega arith) refl (λ j gone. absurd (omega arith)) (λ j none. refl)
 
-  pub change_entries : entries (shape_at ds r) ≡ with_new_value less q w (entries (shape_at cs r))
-  change_entries = change_next.is
-
-  pub change_lookups : (p : K) → kept_of less p (entries (shape_at ds r)) ≡ option_map (revalued less q w p) (kept_of less p (entries (shape_at cs r)))
-  unfolding IsTree
-  change_lookups p = ap (kept_of less p) change_entries ∙ kept_with_value less t.ordered q w p (entries (shape_at cs r))
-
   pub change_tree : IsTree less own len ds r
   unfolding IsTree
   change_tree = subst (λ n. IsTree less own n ds r) (length_with_value less t.ordered q w (entries (shape_at cs r)) ∙ tree_len less own len cs r t) change_next.tree
@@ -206,16 +198,9 @@ module _ {K V : Type 0} (less : K → K → Bool) (own len : ℕ) (cs ds : List 
   pub change_arranged : Arranged less (view_of own ds r)
   change_arranged = change_next.arranged
 
-  pub change_others : OthersStay (view_of own cs r) (view_of own ds r)
-  change_others = change_next.others
-
 some_of : {A B : Type 0} (g : A → B) (o : Option A) (y : B) → option_map g o ≡ Some y → (x : A) × (o ≡ Some x)
 some_of g None y e = absurd cc
 some_of g (Some x) y e = (x, refl)
-
-pub absent_entries : {K V : Type 0} (less : K → K → Bool) (own len : ℕ) (cs : List (Cell K V)) (r : Option ℕ) (q : K) → IsTree less own len cs r → seek less q (shape_at cs r) ≡ None
-    → without_key less q (entries (shape_at cs r)) ≡ entries (shape_at cs r)
-absent_entries less own len cs r q t none = remove_none (same less q) (entries (shape_at cs r)) (tree_seek less own len cs r q t ∙ none)
 
 -- a key taken out, and its cell made blank
 module _ {K V : Type 0} (less : K → K → Bool) (own len : ℕ) (cs ds : List (Cell K V)) (r s : Option ℕ) (q : K) (at : ℕ)
@@ -246,13 +231,6 @@ module _ {K V : Type 0} (less : K → K → Bool) (own len : ℕ) (cs ds : List 
   pub remove_some : 1 ≤ len
   remove_some = omega (arith, remove_length)
 
-  pub remove_entries : entries (shape_at (slice_set ds at Blank) s) ≡ without_key less q (entries (shape_at cs r))
-  remove_entries = remove_next.is
-
-  pub remove_lookups : (p : K) → kept_of less p (entries (shape_at (slice_set ds at Blank) s)) ≡ cond (same less p q) None (kept_of less p (entries (shape_at cs r)))
-  unfolding IsTree
-  remove_lookups p = ap (kept_of less p) remove_entries ∙ lookup_remove less t.ordered q p (entries (shape_at cs r)) t.rising
-
   pub remove_tree : IsTree less own (len - 1) (slice_set ds at Blank) s
   remove_tree =
       let n : length (without_key less q (entries (shape_at cs r))) ≡ len - 1 = omega (arith, remove_length) in
@@ -261,16 +239,101 @@ module _ {K V : Type 0} (less : K → K → Bool) (own len : ℕ) (cs ds : List 
   pub remove_arranged : Arranged less (view_of own (slice_set ds at Blank) s)
   remove_arranged = remove_next.arranged
 
-  pub remove_others : OthersStay (view_of own cs r) (view_of own (slice_set ds at Blank) s)
-  remove_others = remove_next.others
+-- What the methods promise of a tree, by what their callers saw of it before. The written answers cite this, so that the
+-- prover does not search for it.
+module _ {K V : Type 0} (less : K → K → Bool) (own len : ℕ) (cs : List (Cell K V)) (r : Option ℕ) (t : IsTree less own len cs r) (old : View K V) (e : view_of own cs r ≡ old) where
+  pub old_arranged : Arranged less old
+  old_arranged = subst (Arranged less) e (tree_arranged less own len cs r t)
 
--- what the methods of a tree need
-pub ruleset making = (empty_entries, made, made_arranged)
+  -- where no cell was written
+  module _ (ds : List (Cell K V)) (same_cells : ds ≡ cs) where
+    same_view : old ≡ view_of own ds r
+    same_view = sym e ∙ ap (λ x. view_of own x r) (sym same_cells)
+
+    pub kept_arranged : Arranged less (view_of own ds r)
+    kept_arranged = subst (Arranged less) same_view old_arranged
+
+    pub kept_others : OthersStay old (view_of own ds r)
+    kept_others = subst (OthersStay old) same_view (record { own = refl; long = refl; stay = λ j before after. refl; beyond = λ j past. refl })
+
+    -- a key that was not there was to be taken out
+    module _ (q : K) (absent : seek less q (shape_at cs r) ≡ None) where
+      absent_list : without_key less q old.entries ≡ old.entries
+      absent_list = subst (λ v. without_key less q v.entries ≡ v.entries) e (remove_none (same less q) (entries (shape_at cs r)) (tree_seek less own len cs r q t ∙ absent))
+
+      pub absent_entries : entries (shape_at ds r) ≡ without_key less q old.entries
+      absent_entries = ap (λ v. v.entries) (sym same_view) ∙ sym absent_list
+
+      pub absent_lookups : (p : K) → kept_of less p (entries (shape_at ds r)) ≡ cond (same less p q) None (kept_of less p old.entries)
+      unfolding IsTree
+      absent_lookups p = ap (kept_of less p) absent_entries ∙ subst (λ v. kept_of less p (without_key less q v.entries) ≡ cond (same less p q) None (kept_of less p v.entries)) e
+          (lookup_remove less t.ordered q p (entries (shape_at cs r)) t.rising)
+
+  -- a key was put in
+  module _ (ds : List (Cell K V)) (s : Option ℕ) (q : K) (w : V) (at : ℕ) (free : true ≡ is_free old at) (absent : seek less q (shape_at cs r) ≡ None) (b : Becomes cs ds r s (Some at) None (put less q w at (shape_at cs r))) where
+    inside : at < own
+    inside = free_inside (view_of own cs r) at (free ∙ ap (λ v. is_free v at) (sym e))
+
+    after_insert : Next less own cs ds r s (with_key less q w at (entries (shape_at cs r)))
+    after_insert = insert_next less own len cs ds r s q w at t absent inside b
+
+    pub inserted_entries : entries (shape_at ds s) ≡ with_key less q w at old.entries
+    inserted_entries = after_insert.is ∙ ap (λ v. with_key less q w at v.entries) e
+
+    pub inserted_lookups : (p : K) → kept_of less p (entries (shape_at ds s)) ≡ cond (same less p q) (Some (record { value = w; cell = at })) (kept_of less p old.entries)
+    unfolding IsTree
+    inserted_lookups p = ap (kept_of less p) after_insert.is ∙ lookup_insert less t.ordered (q, record { value = w; cell = at }) p (entries (shape_at cs r)) (tree_seek less own len cs r q t ∙ absent)
+        ∙ ap (λ v. cond (same less p q) (Some (record { value = w; cell = at })) (kept_of less p v.entries)) e
+
+    pub inserted_others : OthersStay old (view_of own ds s)
+    inserted_others = subst (λ v. OthersStay v (view_of own ds s)) e after_insert.others
+
+    pub inserted_arranged : Arranged less (view_of own ds s)
+    inserted_arranged = after_insert.arranged
+
+  -- a value was changed
+  module _ (ds : List (Cell K V)) (q : K) (w : V) (b : Becomes cs ds r r None None (change less q w (shape_at cs r))) where
+    after_change : Next less own cs ds r r (with_new_value less q w (entries (shape_at cs r)))
+    after_change = change_next less own len cs ds r q w t b
+
+    pub changed_entries : entries (shape_at ds r) ≡ with_new_value less q w old.entries
+    changed_entries = after_change.is ∙ ap (λ v. with_new_value less q w v.entries) e
+
+    pub changed_lookups : (p : K) → kept_of less p (entries (shape_at ds r)) ≡ option_map (revalued less q w p) (kept_of less p old.entries)
+    unfolding IsTree
+    changed_lookups p = ap (kept_of less p) after_change.is ∙ kept_with_value less t.ordered q w p (entries (shape_at cs r)) ∙ ap (λ v. option_map (revalued less q w p) (kept_of less p v.entries)) e
+
+    pub changed_others : OthersStay old (view_of own ds r)
+    changed_others = subst (λ v. OthersStay v (view_of own ds r)) e after_change.others
+
+    pub changed_arranged : Arranged less (view_of own ds r)
+    changed_arranged = after_change.arranged
+
+  -- a key was taken out
+  module _ (ds : List (Cell K V)) (s : Option ℕ) (q : K) (at : ℕ) (found : option_map (λ x. x.cell) (seek less q (shape_at cs r)) ≡ Some at) (b : Becomes cs ds r s None (Some at) (cut less q (shape_at cs r))) where
+    after_remove : Next less own cs (slice_set ds at Blank) r s (without_key less q (entries (shape_at cs r)))
+    after_remove = remove_next less own len cs ds r s q at t found b
+
+    pub removed_entries : entries (shape_at (slice_set ds at Blank) s) ≡ without_key less q old.entries
+    removed_entries = after_remove.is ∙ ap (λ v. without_key less q v.entries) e
+
+    pub removed_lookups : (p : K) → kept_of less p (entries (shape_at (slice_set ds at Blank) s)) ≡ cond (same less p q) None (kept_of less p old.entries)
+    unfolding IsTree
+    removed_lookups p = ap (kept_of less p) after_remove.is ∙ lookup_remove less t.ordered q p (entries (shape_at cs r)) t.rising ∙ ap (λ v. cond (same less p q) None (kept_of less p v.entries)) e
+
+    pub removed_others : OthersStay old (view_of own (slice_set ds at Blank) s)
+    removed_others = subst (λ v. OthersStay v (view_of own (slice_set ds at Blank) s)) e after_remove.others
+
+    pub removed_arranged : Arranged less (view_of own (slice_set ds at Blank) s)
+    removed_arranged = after_remove.arranged
+
+-- what the methods of a tree need besides
+pub ruleset making = (common_steps, empty_entries, made, made_arranged)
 
 pub ruleset looking = (tree_lies, tree_seek, tree_len, tree_arranged, place_at, place_past)
 
-pub ruleset inserting = (tree_lies, tree_seek, tree_arranged, insert_tree, insert_entries, insert_lookups, insert_others, insert_fits, insert_arranged)
+pub ruleset inserting = (tree_lies, tree_seek, insert_tree, insert_fits)
 
-pub ruleset changing = (tree_lies, tree_seek, change_tree, change_entries, change_lookups, change_others, change_arranged)
+pub ruleset changing = (tree_lies, tree_seek, change_tree)
 
-pub ruleset removing = (tree_lies, tree_seek, tree_arranged, absent_entries, remove_within, remove_some, remove_tree, remove_entries, remove_lookups, remove_others, remove_arranged)
+pub ruleset removing = (tree_lies, tree_seek, remove_within, remove_tree)

@@ -1,6 +1,8 @@
 -- What the operations find in the shape of a tree and make of it, and what they do to the cells.
-use Rattle.std.specs.Prelude.{◌≡◌, ◌==◌, ℕ, ◌+◌, ◌-◌, nat_lt, Bool, cond, List, Option, Some, None, length, slice_get}
+use Rattle.std.specs.Prelude.{◌≡◌, ◌==◌, ℕ, ◌+◌, ◌-◌, ◌≢◌, nat_lt, Bool, cond, List, Option, Some, None, IfNone, length, slice_get}
+use Rattle.std.specs.Option.{option_map}
 use Rattle.tree.specs.declared.cell.Cell.{Cell}
+use Rattle.tree.specs.declared.removal.Removed.{Removed}
 use Rattle.tree.specs.Entries.{Kept}
 use Rattle.tree.specs.Shapes.{Shape, leaf, node, size, uses, one_at, shape_at, LiesAs}
 
@@ -69,3 +71,21 @@ pub record BecomesAs {K V : Type 0} (cs ds : List (Cell K V)) (r s taken freed :
 -- the same, closed: a proof that wants its parts says so
 unfoldable pub Becomes : {K V : Type 0} (cs ds : List (Cell K V)) (r s taken freed : Option ℕ) (t : Shape K V) → Type 0
 Becomes cs ds r s taken freed t = BecomesAs cs ds r s taken freed t
+
+module _ {K V : Type 0} (less : K → K → Bool) (q : K) (cs ds : List (Cell K V)) (r : Option ℕ) where
+  -- What putting q in answers and leaves: none where q is there, and no cell is written; else the link to the tree with q
+  -- in it, with the value w, in the cell `at`.
+  abbrev pub PutIn : V → ℕ → Option ℕ → Type 0
+  PutIn w at None = (seek less q (shape_at cs r) ≢ None) × (ds ≡ cs)
+  PutIn w at (Some s) = (seek less q (shape_at cs r) ≡ None) × Becomes cs ds r (Some s) (Some at) None (put less q w at (shape_at cs r))
+
+  -- What changing the value of q to w answers and leaves: the value that q had; none where q is not there, and no cell is
+  -- written.
+  abbrev pub Changed : V → Option V → Type 0
+  Changed w old = (old ≡ option_map (λ x. x.value) (seek less q (shape_at cs r))) × IfNone old (ds ≡ cs) × Becomes cs ds r r None None (change less q w (shape_at cs r))
+
+  -- What taking q out answers and leaves: none where q is not there, and no cell is written; else the cell that q lay in,
+  -- which the tree no longer uses, and the link to the tree without q.
+  abbrev pub TakenOut : Option Removed → Type 0
+  TakenOut None = (seek less q (shape_at cs r) ≡ None) × (ds ≡ cs)
+  TakenOut (Some x) = (option_map (λ y. y.cell) (seek less q (shape_at cs r)) ≡ Some x.freed) × Becomes cs ds r x.link None (Some x.freed) (cut less q (shape_at cs r))

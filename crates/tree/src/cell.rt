@@ -1,5 +1,5 @@
 //! The cells that a caller lends to a tree, and the nodes in them.
-ghost use Rattle.std.specs.Prelude.{◌≡◌, length, replicate, slice_get, nat_lt, if◌then◌else◌, false};
+ghost use Rattle.std.specs.Prelude.{◌≡◌, ◌≤◌, Some, length, replicate, slice_get, nat_lt, if◌then◌else◌, false};
 ghost use Rattle.keys.specs.Orders.{TotalOrder};
 ghost use Rattle.tree.specs.Shapes.{is_blank};
 ghost use Rattle.tree.specs.Shapes.{Lies, Opened, with_left, with_right, with_links, with_value};
@@ -11,6 +11,15 @@ use keys::kind::Kind;
 pub enum Cell<K, V> {
     Blank,
     Used(Node<K, V>),
+}
+
+impl<K, V> Cell<K, V> {
+    /// Whether no key lies in it.
+    fn is_blank(&self) -> bool
+        ensures { result ≡ is_blank (Some self.now) }
+    {
+        matches!(self, Cell::Blank)
+    }
 }
 
 /// A key with its value, and for the subtrees of the lesser and of the greater keys the cell of its root, if there is one.
@@ -35,13 +44,14 @@ pub(crate) fn clear<K: Kind, V: Copy>(cells: &mut [Cell<K, V>])
 
 /// Whether a cell is blank, and one of the first `own`.
 pub(crate) fn is_free<K, V>(cells: &[Cell<K, V>], own: usize, at: u16) -> bool
+    requires { own ≤ length cells.now }
     ensures { result ≡ (if nat_lt at own then is_blank (slice_get cells.now at) else false) }
 {
-    (at as usize) < own && matches!(cells.get(at as usize), Some(Cell::Blank))
+    (at as usize) < own && cells[at as usize].is_blank()
 }
 
 /// The node at the root of a tree.
-#[tactic(auto, using(crate::proofs::Cells::reads), unfolding(crate::specs::Shapes::Lies))]
+#[tactic(auto, using(crate::proofs::Cells::lies_within))]
 pub(crate) fn node_at<K, V>(cells: &[Cell<K, V>], at: u16) -> &Node<K, V>
     requires { Lies cells.now (Some at) }
     ensures { Opened cells.now at result.now }

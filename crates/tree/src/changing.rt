@@ -1,8 +1,6 @@
 //! The value of a key changed, in the cell that the key lies in.
-ghost use Rattle.std.specs.Prelude.{◌≡◌, IfNone};
-ghost use Rattle.std.specs.Option.{option_map};
-ghost use Rattle.tree.specs.Operations.{seek, change, Becomes};
-ghost use Rattle.tree.specs.Shapes.{Lies, shape_at};
+ghost use Rattle.tree.specs.Operations.{Changed};
+ghost use Rattle.tree.specs.Shapes.{Lies};
 
 use crate::cell::{Cell, node_at};
 use crate::search::compared;
@@ -18,11 +16,7 @@ pub(crate) fn change<K: Kind, V: Copy>(
     value: V,
 ) -> Option<V>
     requires { Lies cells.old link }
-    ensures old { let t = shape_at cells.old link in
-        result ≡ option_map (λ x. x.value) (seek K.Kind.less key.now t) }
-    ensures stays { IfNone result (cells.new ≡ cells.old) }
-    ensures changed { let t = shape_at cells.old link in
-        Becomes cells.old cells.new link link None None (change K.Kind.less key.now value t) }
+    ensures { Changed K.Kind.less key.now cells.old cells.new link value result }
 {
     let root = link?;
     let node = *node_at(cells, root);

@@ -1,7 +1,7 @@
 //! A key put in, as a leaf at the end of the path on which it was looked for.
-ghost use Rattle.std.specs.Prelude.{◌≡◌, slice_get, IfSome, IfNone, ◌≢◌};
-ghost use Rattle.tree.specs.Operations.{seek, put, Becomes};
-ghost use Rattle.tree.specs.Shapes.{Lies, shape_at};
+ghost use Rattle.std.specs.Prelude.{◌≡◌, slice_get};
+ghost use Rattle.tree.specs.Operations.{PutIn};
+ghost use Rattle.tree.specs.Shapes.{Lies};
 
 use crate::cell::{Cell, Node, node_at};
 use crate::search::compared;
@@ -19,12 +19,7 @@ pub(crate) fn insert<K: Kind, V: Copy>(
 ) -> Option<u16>
     requires lies { Lies cells.old link }
     requires blank { slice_get cells.old at ≡ Some Cell.Blank }
-    ensures put { let t = shape_at cells.old link in
-        IfSome result (λ root. Becomes cells.old cells.new link (Some root) (Some at) None
-        (put K.Kind.less key value at t)) }
-    ensures new { IfSome result (λ root. seek K.Kind.less key (shape_at cells.old link) ≡ None) }
-    ensures there { IfNone result (seek K.Kind.less key (shape_at cells.old link) ≢ None) }
-    ensures stays { IfNone result (cells.new ≡ cells.old) }
+    ensures { PutIn K.Kind.less key cells.old cells.new link value at result }
 {
     let Some(root) = link else {
         cells[at as usize] = Cell::Used(Node {

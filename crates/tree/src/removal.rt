@@ -1,7 +1,6 @@
 //! A key taken out: where its node has two subtrees, the first node of the right one is linked in its place.
-ghost use Rattle.std.specs.Prelude.{◌≡◌, ◌<◌, length, IfSome, IfNone};
-ghost use Rattle.std.specs.Option.{option_map};
-ghost use Rattle.tree.specs.Operations.{seek, first, rest, unrooted, cut, Becomes};
+ghost use Rattle.std.specs.Prelude.{◌≡◌, ◌<◌, length};
+ghost use Rattle.tree.specs.Operations.{first, rest, unrooted, Becomes, TakenOut};
 ghost use Rattle.tree.specs.Shapes.{Lies, shape_at};
 
 use crate::cell::{Cell, Node, node_at};
@@ -10,7 +9,7 @@ use keys::kind::Kind;
 use std::cmp::Ordering;
 
 /// The first node of a tree, taken off: its cell, itself, and the link to the rest.
-#[derive(Clone, Copy)]
+#[derive(Drop)]
 struct First<K, V> {
     cell: u16,
     node: Node<K, V>,
@@ -64,9 +63,9 @@ fn without_root<K: Copy, V: Copy>(cells: &mut [Cell<K, V>], root: u16) -> Option
     let Some(right) = node.right else {
         return node.left;
     };
-    let first = take_first(cells, right);
-    cells[first.cell as usize] = Cell::Used(first.node.with_links(Some(left), first.rest));
-    Some(first.cell)
+    let First { cell, node, rest } = take_first(cells, right);
+    cells[cell as usize] = Cell::Used(node.with_links(Some(left), rest));
+    Some(cell)
 }
 
 /// Takes a key out, if it is there.
@@ -77,13 +76,7 @@ pub(crate) fn remove<K: Kind, V: Copy>(
     key: &K,
 ) -> Option<Removed>
     requires { Lies cells.old link }
-    ensures absent { IfNone result (seek K.Kind.less key.now (shape_at cells.old link) ≡ None) }
-    ensures stays { IfNone result (cells.new ≡ cells.old) }
-    ensures freed { let t = shape_at cells.old link in
-        IfSome result (λ x. option_map (λ y. y.cell) (seek K.Kind.less key.now t) ≡ Some x.freed) }
-    ensures rest { let t = shape_at cells.old link in
-        IfSome result (λ x. Becomes cells.old cells.new link x.link None (Some x.freed)
-        (cut K.Kind.less key.now t)) }
+    ensures { TakenOut K.Kind.less key.now cells.old cells.new link result }
 {
     let root = link?;
     let node = *node_at(cells, root);

@@ -95,6 +95,7 @@ impl<'a, K: Kind, V: Copy> Tree<'a, K, V> {
     }
 
     /// Whether a key can be put into a cell: it is one of the tree's own, and no key lies in it.
+    #[tactic(auto, using(crate::proofs::Trees::tree_room))]
     pub fn is_free(&self, at: u16) -> bool
         ensures { result ≡ is_free self.now at }
     {
@@ -155,10 +156,11 @@ impl<'a, K: Kind, V: Copy> Tree<'a, K, V> {
         ensures arranged { Arranged K.Kind.less self.new }
     {
         let removed = removal::remove(self.cells, self.root, key)?;
+        let freed = removed.freed;
         self.root = removed.link;
-        self.cells[removed.freed as usize] = Cell::Blank;
+        self.cells[freed as usize] = Cell::Blank;
         self.len -= 1;
-        Some(removed.freed)
+        Some(freed)
     }
 
     /// The cells that were lent, as they are now.

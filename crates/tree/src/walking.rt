@@ -7,7 +7,6 @@ ghost use Rattle.tree.specs.Walks.{IsPlace};
 use crate::cell::{Cell, Node, node_at};
 
 /// Where a walk to a place ends: at a node, or past the last one with so many places still to pass.
-#[derive(Clone, Copy)]
 pub(crate) enum Walk<'c, K, V> {
     At(&'c Node<K, V>),
     Past(usize),
