@@ -179,9 +179,6 @@ module _ {K V : Type 0} (less : K → K → Bool) (own len : ℕ) (cs ds : List 
   unfolding IsTree
   insert_fits = omega (arith, tree_few less own (len + 1) ds s insert_tree, t.fits)
 
-  pub insert_arranged : Arranged less (view_of own ds s)
-  insert_arranged = insert_next.arranged
-
 -- a value changed
 module _ {K V : Type 0} (less : K → K → Bool) (own len : ℕ) (cs ds : List (Cell K V)) (r : Option ℕ) (q : K) (w : V)
     (t : IsTree less own len cs r) (b : Becomes cs ds r r None None (change less q w (shape_at cs r))) where
@@ -194,9 +191,6 @@ module _ {K V : Type 0} (less : K → K → Bool) (own len : ℕ) (cs ds : List 
   pub change_tree : IsTree less own len ds r
   unfolding IsTree
   change_tree = subst (λ n. IsTree less own n ds r) (length_with_value less t.ordered q w (entries (shape_at cs r)) ∙ tree_len less own len cs r t) change_next.tree
-
-  pub change_arranged : Arranged less (view_of own ds r)
-  change_arranged = change_next.arranged
 
 some_of : {A B : Type 0} (g : A → B) (o : Option A) (y : B) → option_map g o ≡ Some y → (x : A) × (o ≡ Some x)
 some_of g None y e = absurd cc
@@ -235,9 +229,6 @@ module _ {K V : Type 0} (less : K → K → Bool) (own len : ℕ) (cs ds : List 
   remove_tree =
       let n : length (without_key less q (entries (shape_at cs r))) ≡ len - 1 = omega (arith, remove_length) in
       subst (λ n. IsTree less own n after s) n remove_next.tree
-
-  pub remove_arranged : Arranged less (view_of own (slice_set ds at Blank) s)
-  remove_arranged = remove_next.arranged
 
 -- What the methods promise of a tree, by what their callers saw of it before. The written answers cite this, so that the
 -- prover does not search for it.
@@ -282,7 +273,7 @@ module _ {K V : Type 0} (less : K → K → Bool) (own len : ℕ) (cs : List (Ce
 
     pub inserted_lookups : (p : K) → kept_of less p (entries (shape_at ds s)) ≡ cond (same less p q) (Some (record { value = w; cell = at })) (kept_of less p old.entries)
     unfolding IsTree
-    inserted_lookups p = ap (kept_of less p) after_insert.is ∙ lookup_insert less t.ordered (q, record { value = w; cell = at }) p (entries (shape_at cs r)) (tree_seek less own len cs r q t ∙ absent)
+    inserted_lookups p = ap (kept_of less p) after_insert.is ∙ lookup_insert less t.ordered (q, record { value = w; cell = at }) p (entries (shape_at cs r)) (insert_none less own len cs ds r s q w at t absent inside b)
         ∙ ap (λ v. cond (same less p q) (Some (record { value = w; cell = at })) (kept_of less p v.entries)) e
 
     pub inserted_others : OthersStay old (view_of own ds s)
