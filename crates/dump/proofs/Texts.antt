@@ -1,17 +1,15 @@
 -- What std says of an address and of a flight word is what a log's text says, and each field prints its part of a line.
 -- Idea: the four bytes of a number; bytes below 128, which are characters; and a field is there or missing.
-use Rattle.std.proofs.Common.{◌≡◌, ℕ, ◌/◌, ◌%◌, ◌^◌, ◌<◌, true, eqb, leb, List, ◌++◌, length, get_or, Option, Some, None, MatchOption, IsSomeAnd, codes, decimal, refl, ap, ◌∙◌, append_assoc, arith}
-use Rattle.std.proofs.lemmas.Str.{IsUtf8-from_ascii}
-use Rattle.std.proofs.lemmas.Str.Ascii.{IsAscii-from_reads}
-use Rattle.std.proofs.lemmas.Bool.{and_parts, eqb-true, leb-true}
+use Rattle.std.proofs.Common.{◌≡◌, ℕ, ◌/◌, ◌%◌, ◌^◌, ◌<◌, true, eqb, List, ◌++◌, length, Option, Some, None, MatchOption, IsSomeAnd, codes, decimal, refl, ap, ◌∙◌, append_assoc, arith}
+use Rattle.std.proofs.lemmas.Bool.{and_parts, eqb-true}
 use Rattle.std.specs.Borrow.{Bor}
 use Rattle.std.specs.Str.{IsUtf8}
 use Rattle.std.specs.declared.net.ipv4_addr.Ipv4Addr.{Ipv4Addr}
 use Rattle.std.specs.Net.Addr.{ipv4_octets, IsIpv4OfBits}
 use Rattle.std.specs.Net.Text.{dotted_text, ipv4_text}
 use Rattle.keys.specs.Words.{first_wrong, is_word}
-use Rattle.keys.proofs.Lexical.{first_is}
 use Rattle.records.specs.Values.{bytes_of}
+use Rattle.records.proofs.Characters.{none_wrong_utf8}
 use Rattle.dump.specs.declared.lines.Quoted.{Quoted}
 use Rattle.dump.specs.Lines.{dotted, quoted_text, field_output, number_part, source_part, flight_part}
 
@@ -24,9 +22,7 @@ ipv4_dotted a v l e =
 pub word_utf8 : (w : List ℕ) → is_word w ≡ true → IsUtf8 w
 word_utf8 w h =
     let p = and_parts _ (eqb (first_wrong w) (length w)) h in
-    IsUtf8-from_ascii w (IsAscii-from_reads w (length w) (omega arith) (λ i l.
-    let b = (first_is w).before i (omega (arith, eqb-true (first_wrong w) (length w) p.1)) in
-    omega (arith, leb-true (get_or w i 0) 0x5F (and_parts (leb 0x20 (get_or w i 0)) (leb (get_or w i 0) 0x5F) b).1)))
+    none_wrong_utf8 w (eqb-true (first_wrong w) (length w) p.1)
 
 -- what a field prints is its part of a line
 pub number_printed : (name : List ℕ) (v : Option ℕ) → field_output (λ n. Some (decimal n)) name v ≡ Some (number_part name v)

@@ -112,7 +112,7 @@ pub(crate) fn push_log(text: &mut String, log: &[u8]) -> Result<(), AllocError>
     let mut count = 0;
     for item in Records::new(log) {
         match item {
-            Ok(given) => {
+            Ok((_, given)) => {
                 let line = RecordLine {
                     index: count,
                     given,

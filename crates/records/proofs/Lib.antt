@@ -6,3 +6,4 @@ pub mod Torn
 pub mod Rounds
 pub mod Logging
 pub mod Items
+pub mod Characters

@@ -16,8 +16,8 @@ pub struct LogFault {
     pub offset: usize,
 }
 
-/// The records of a log, in order, up to the first fault, which is the last item. A clause sees the items that are
-/// left.
+/// The records of a log, in order, each with the offset of its first byte from the log's start, up to the first fault,
+/// which is the last item. A clause sees the items that are left.
 #[derive(Debug, Drop)]
 pub struct Records<'a> {
     rest: &'a [u8],
@@ -37,14 +37,15 @@ impl<'a> Model for Records<'a> {
 }
 
 impl<'a> Records<'a> {
-    ghost use Rattle.records.specs.Items.{items_of, IsWritable};
+    ghost use Rattle.records.specs.Items.{items_of, IsWritable, BeginAfter};
 
     /// All records of the log.
-    #[tactic(auto, using(crate::proofs::Items::few_items, crate::proofs::Items::writable_items))]
+    #[tactic(auto, using(crate::proofs::Items::few_items, crate::proofs::Items::writable_items, crate::proofs::Items::begin_after))]
     pub fn new(log: &'a [u8]) -> Self
         ensures items { result ≡ items_of (log_of log.now) }
         ensures few { length result ≤ length log.now }
         ensures writable { All IsWritable result }
+        ensures offsets { BeginAfter (log_of log.now) result }
     {
         Records {
             rest: log,
@@ -58,23 +59,24 @@ impl<'a> Iterator for Records<'a> {
     ghost use Rattle.std.specs.Iterator.{YieldsFirstBy, item_count};
     ghost use Rattle.records.specs.Items.{item_of};
 
-    type Item = Result<Record<'a>, LogFault>;
+    type Item = Result<(usize, Record<'a>), LogFault>;
 
     ghost next_gives = { YieldsFirstBy item_of (λ items. items) };
 
     ghost remaining = { item_count (λ items. items) };
 
-    #[tactic(auto, using(crate::proofs::Logging::log_stopped, crate::proofs::Logging::log_over))]
+    #[tactic(auto, using(crate::proofs::Logging::log_over, crate::proofs::Items::items_read))]
     fn next(&mut self) -> Option<Self::Item> {
         if self.rest.is_empty() {
             return None;
         }
         match read(self.rest) {
             Ok((record, length)) => {
+                let offset = self.offset;
                 self.rest = &self.rest[length..];
                 self.index += 1;
                 self.offset += length;
-                Some(Ok(record))
+                Some(Ok((offset, record)))
             }
             Err(fault) => {
                 let offset = self.offset + fault.place();

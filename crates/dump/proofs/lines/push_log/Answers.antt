@@ -8,7 +8,7 @@ pub invariant_of-line : goal.invariant_of-line
 invariant_of-line c = record {
   fits =
       flight_fits (string_bytes c.args.text.now) (string_bytes c.loop-item.text) c.args.log.now c.loop-item.count c.loop-item.item-iterator c.next.new.self
-      (value_of c.in-Ok.given) c.loop-item.invariant.so_far (rw c.in-Ok.is at c.in-Some.ensures.steps);
+      c.in-Ok.field-0-0 (value_of c.in-Ok.given) c.loop-item.invariant.so_far (rw c.in-Ok.is at c.in-Some.ensures.steps);
 }
 
 pub loop-item-preserved : goal.loop-item-preserved
@@ -17,6 +17,6 @@ loop-item-preserved c = record {
   ends = tt;
   so_far =
       more (string_bytes c.args.text.now) (string_bytes c.loop-item.text) c.args.log.now c.loop-item.count c.loop-item.item-iterator c.next.new.self
-      (value_of c.in-Ok.given) c.loop-item.invariant.so_far (rw c.in-Ok.is at c.in-Some.ensures.steps) (string_bytes c.write.new.self)
+      c.in-Ok.field-0-0 (value_of c.in-Ok.given) c.loop-item.invariant.so_far (rw c.in-Ok.is at c.in-Some.ensures.steps) (string_bytes c.write.new.self)
       c.in_ok-write-in-Ok.ensures.bytes;
 }
