@@ -1,0 +1,5 @@
+pub mod Exchanging
+pub mod Tying
+pub mod Contents
+pub mod Steps
+pub mod Filling

@@ -1,0 +1,2 @@
+pub mod Beside
+mod Tallying

@@ -1,0 +1,2 @@
+pub mod Contents
+pub mod Making
