@@ -1,0 +1,2 @@
+pub mod Beginnings
+pub mod Feeding
