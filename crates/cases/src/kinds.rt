@@ -6,7 +6,7 @@ use keys::word::FlightWord;
 use std::test::Fail;
 
 /// The number of the refusal, if there is one.
-fn refused<T: Drop>(answer: Result<T, Refusal>) -> Option<u8> {
+pub(crate) fn refused<T: Drop>(answer: Result<T, Refusal>) -> Option<u8> {
     answer.err().map(|refusal| refusal.number())
 }
 

@@ -1,11 +1,20 @@
-//! Tests of keys, records, the text of a log and trees on worked examples and edge values; `record_table` has the many
-//! cases of the reader and the writer, `tree_table` those of a tree. Rests on keys, records, dump and tree.
+//! Tests on worked examples and edge values: of keys, records, the text of a log, trees, summaries, lenses, feeding,
+//! pages and their text. `record_table` has the many cases of the reader and the writer, `tree_table` those of a tree,
+//! `summary_table` those of a summary. Rests on all crates that it tests.
 #![tactic(auto)]
 
+#[cfg(test)]
+mod fed;
 #[cfg(test)]
 mod kinds;
 #[cfg(test)]
 mod orders;
+#[cfg(test)]
+mod page_texts;
+#[cfg(test)]
+mod sketches;
+#[cfg(test)]
+mod tallies;
 #[cfg(test)]
 mod torn_logs;
 #[cfg(test)]
