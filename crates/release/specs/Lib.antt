@@ -1,0 +1,4 @@
+pub mod Books
+pub mod BookRuns
+pub mod Draws
+pub mod Lists
