@@ -1,0 +1,4 @@
+pub mod Parts
+pub mod Turning
+pub mod Entering
+pub mod ShorterLogs

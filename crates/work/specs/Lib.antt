@@ -1,0 +1,4 @@
+pub mod Calls
+pub mod Steps
+pub mod Runs
+pub mod ShorterLogs
