@@ -1,14 +1,17 @@
-//! What a program does with permits: each is handed back, from wherever it was kept. The must-fail edits let them go.
-//! Rests on keys and release.
+//! What a program does with permits: each is handed back, from wherever it was kept, or spent by a release. The must-fail
+//! edits let them go. Rests on keys, summaries and release.
 #![tactic(auto)]
 
-ghost use Rattle.std.specs.Prelude.{◌≡◌, cond, Ok};
-ghost use Rattle.release.specs.Books.{has_left, knows, handed_back, after_hand_back};
+ghost use Rattle.std.specs.Prelude.{◌≡◌, cond, IfOk, Ok, OnErr};
+ghost use Rattle.release.specs.Books.{has_left, knows, one_out, one_spent, handed_back, after_hand_back};
 ghost use Rattle.permits_held.specs.Served.{served, served_in_turn, served_in_rounds, served_by_new};
 
 use keys::refusal::Refusal;
 use release::book::{Book, Refused};
+use release::entry::Entry;
 use release::permit::Permit;
+use release::release::release;
+use summaries::summary::Summary;
 
 /// From a variable.
 pub fn in_variable(book: &mut Book) -> Result<(), Refusal>
@@ -90,5 +93,27 @@ pub fn to_either(first: &mut Book, second: &mut Book, permit: Permit) -> Result<
     match first.hand_back(permit) {
         Ok(()) => Ok(()),
         Err(refused) => second.hand_back(refused.permit),
+    }
+}
+
+/// To a release; to the book where that refuses it.
+pub fn to_release<S: Summary>(
+    summary: &S,
+    book: &mut Book,
+    shared: i32,
+    draws: &mut [i32],
+    threshold: u32,
+    output: &mut [Entry<S::Key>],
+) -> Result<usize, Refusal>
+    ensures accepted { IfOk result (λ n. book.new ≡ one_spent (one_out book.old)) }
+    ensures refused { OnErr result (book.new ≡ book.old) }
+{
+    let listing = book.issue()?;
+    match release(summary, book, listing, shared, draws, threshold, output) {
+        Ok(entries) => Ok(entries),
+        Err(refused) => {
+            let _ = book.hand_back(refused.permit);
+            Err(refused.refusal)
+        }
     }
 }

@@ -10,7 +10,8 @@ pub data Act : Type 0 where
   HandBack : Permit → Act
   Release : Permit → Act
 
--- what becomes of the book: the contracts of the calls cite the same
+-- What becomes of the book, as the contracts of the calls say. An accepted release knows its permit, and leaves the book
+-- with one more spent.
 abbrev pub after_act : BookState → Act → BookState
 after_act b Issue = after_issue b
 after_act b (HandBack p) = after_hand_back b p

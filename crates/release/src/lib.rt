@@ -7,5 +7,6 @@ mod draws;
 pub mod entry;
 mod list;
 pub mod permit;
+pub mod release;
 #[cfg(test)]
 mod tests;

@@ -1,7 +1,8 @@
 -- What calls add to the entries, and that the laws hold at every point of a run. Idea: the content's n is the length of
 -- the entries, so taking and feeding find the same room in the content as their definitions do in the entries.
-use Rattle.std.proofs.Common.{◌≡◌, ℕ, suc, ◌+◌, ◌-◌, ◌*◌, Bool, true, false, ◌&&◌, cond, nat_lt, List, [], ◌∷◌, ◌++◌, length, take, Option, refl, sym, ap, ◌∙◌, subst, append_assoc, arith}
+use Rattle.std.proofs.Common.{◌≡◌, ℕ, suc, ◌+◌, ◌-◌, ◌*◌, Bool, true, false, ◌&&◌, cond, nat_lt, List, [], ◌∷◌, ◌++◌, length, take, Option, inl, inr, refl, sym, ap, ◌∙◌, subst, append_assoc, arith}
 use Rattle.std.specs.List.{AllByRecursion, filter}
+use Rattle.keys.specs.Orders.{TotalOrder}
 use Rattle.std.proofs.lemmas.List.{append-nil, length-append}
 use Rattle.std.proofs.lemmas.Bool.{ltb-true, ltb-false}
 use Rattle.std.proofs.Math.Seq.{take-nil}
@@ -9,15 +10,15 @@ use Rattle.records.specs.Values.{RecordValue}
 use Rattle.records.specs.Logs.{log_of}
 use Rattle.model.specs.Contents.{Content, total}
 use Rattle.model.specs.Plans.{Plan, most_entries, after_from, after, Entries}
-use Rattle.model.specs.Neighbours.{Neighbours}
 use Rattle.model.specs.Laws.{HoldsK, Bounded, Lawful}
 use Rattle.model.proofs.Runs.{after-append}
+use Rattle.model.proofs.Handing.{hands_over, runs_hand_over}
 use Rattle.summaries.specs.Calls.{taken_content}
 use Rattle.feeding.specs.Feeding.{keys_of, added}
 use Rattle.work.specs.declared.call.Call.{Call}
 use Rattle.work.specs.declared.call.Call.TheVariants as call
-use Rattle.work.specs.Calls.{with_key, with_keys, with_call, content_with}
-use Rattle.work.specs.Runs.{with_calls, content_after, Point}
+use Rattle.work.specs.Calls.{with_key, with_keys, entries_with, content_with}
+use Rattle.work.specs.Runs.{OneFewer, Near, entries_after, content_after, Point}
 
 all_one_more : {X : Type 0} (P : X → Type 0) (xs : List X) (x : X) → AllByRecursion P xs → P x → AllByRecursion P (xs ++ x ∷ [])
 all_one_more P [] x a p = (p, tt)
@@ -81,24 +82,26 @@ module _ {K : Type 0} (plan : Plan K) where
 
   module _ {L : Type 0} (gives : L → RecordValue → Option K) where
     -- after a call too the entries are such as a summary can have taken, and the content is that after them
-    pub entries_call : (es : List K) (c : Call K L) → Entries plan es → Entries plan (with_call gives plan es c)
+    pub entries_call : (es : List K) (c : Call K L) → Entries plan es → Entries plan (entries_with gives plan es c)
     entries_call es (call.Take x) e = entries_key es x e
     entries_call es (call.Feed f) e = entries_keys es (keys_of (gives f.lens.now) (log_of f.log.now).records) e
     entries_call es (call.Count x) e = e
     entries_call es (call.Place j) e = e
     entries_call es call.Facts e = e
-    entries_call es (call.Page limit room) e = e
+    entries_call es (call.Page limit lines) e = e
+    entries_call es (call.Release r) e = e
 
     pub content_call : (es : List K) (C : Content K) (c : Call K L) → C ≡ after plan es → C.n ≡ length es →
-        content_with gives plan C c ≡ after plan (with_call gives plan es c)
+        content_with gives plan C c ≡ after plan (entries_with gives plan es c)
     content_call es C (call.Take x) q n = taken_key es C x q n
     content_call es C (call.Feed f) q n = fed_keys (gives f.lens.now) es C (log_of f.log.now).records q n
     content_call es C (call.Count x) q n = q
     content_call es C (call.Place j) q n = q
     content_call es C call.Facts q n = q
-    content_call es C (call.Page limit room) q n = q
+    content_call es C (call.Page limit lines) q n = q
+    content_call es C (call.Release r) q n = q
 
-module _ {K L : Type 0} (gives : L → RecordValue → Option K) (less : K → K → Bool) (plan : Plan K)
+module _ {K L : Type 0} (gives : L → RecordValue → Option K) (less : K → K → Bool) (order : TotalOrder less) (plan : Plan K)
     (lawful : Lawful less plan) where
   -- the laws hold of the content after entries that a summary can have taken
   pub point : (C : Content K) (es : List K) → Entries plan es → C ≡ after plan es → Point less plan es C
@@ -107,29 +110,43 @@ module _ {K L : Type 0} (gives : L → RecordValue → Option K) (less : K → K
     content = q;
     counted = record {
       k_stays = ap (λ (D : Content K). D.k) q ∙ lawful.k_stays es e;
-      holds_k = subst (HoldsK less) (sym q) (lawful.holds_k es e);
+      holds_k = own;
       n_counts = number;
       balanced = subst (λ (D : Content K). (D.k + 1) * D.l + total D.held ≡ D.n) (sym q) (lawful.balanced es e) ∙ number;
       bounded = subst (Bounded less es) (sym q) (lawful.bounded es e);
     };
-    neighbours = λ fewer parts.
-        subst (λ fs. Neighbours less C (after plan fs)) (sym parts.others)
-        (subst (λ (D : Content K). Neighbours less D (after plan (parts.before ++ parts.behind))) (sym (q ∙ ap (after plan) parts.whole))
-        (lawful.neighbours parts.before parts.gone parts.behind (subst (Entries plan) parts.whole e)));
+    alike = one_fewer;
+    hands_over = λ D holds near. elim near [
+      | inl n ↦ hands_over less order C D own holds n
+      | inr n ↦ let both = hands_over less order D C holds own n in (both.1, both.0)
+    ];
   }
     where
+      own : HoldsK less C
+      own = subst (HoldsK less) (sym q) (lawful.holds_k es e)
+
+      one_fewer : (fewer : List K) → OneFewer es fewer → Near less C (after plan fewer)
+      one_fewer fewer parts =
+          let whole : Entries plan (parts.before ++ parts.gone ∷ parts.behind) = subst (Entries plan) parts.whole e in
+          subst (λ fs. Near less C (after plan fs)) (sym parts.others)
+          (subst (λ (D : Content K). Near less D (after plan (parts.before ++ parts.behind))) (sym (q ∙ ap (after plan) parts.whole))
+          (record {
+            neighbours = lawful.neighbours parts.before parts.gone parts.behind whole;
+            hand_over = runs_hand_over less order plan lawful parts.before parts.gone parts.behind whole;
+          }))
+
       number : C.n ≡ length es
       number = ap (λ (D : Content K). D.n) q ∙ lawful.n_counts es e
 
   -- and after any calls
   pub points_after : (calls : List (Call K L)) (C : Content K) (es : List K) → Entries plan es → C ≡ after plan es →
-      Point less plan (with_calls gives plan es calls) (content_after gives plan C calls)
+      Point less plan (entries_after gives plan es calls) (content_after gives plan C calls)
   points_after [] C es e q = point C es e q
   points_after (c ∷ calls) C es e q =
-      points_after calls (content_with gives plan C c) (with_call gives plan es c) (entries_call plan gives es c e)
+      points_after calls (content_with gives plan C c) (entries_with gives plan es c) (entries_call plan gives es c e)
       (content_call plan gives es C c q (ap (λ (D : Content K). D.n) q ∙ lawful.n_counts es e))
 
   -- so at every point of a run
   pub run_points : (C : Content K) (calls : List (Call K L)) (es : List K) → Entries plan es → C ≡ after plan es → (j : ℕ) →
-      Point less plan (with_calls gives plan es (take j calls)) (content_after gives plan C (take j calls))
+      Point less plan (entries_after gives plan es (take j calls)) (content_after gives plan C (take j calls))
   run_points C calls es e q j = points_after (take j calls) C es e q

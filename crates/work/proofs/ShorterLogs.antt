@@ -1,7 +1,8 @@
--- A log, and that log without one record, fed to alike fresh summaries leave one content or neighbours. Idea: a log fed to
+-- A log, and that log without one record, fed to alike fresh summaries leave one content, or neighbours that hand over. Idea: a log fed to
 -- its end finds room for all its admitted keys, so without one record it adds the same keys, or all of them but one.
 use Rattle.std.proofs.Common.{◌≡◌, ℕ, zero, suc, ◌≤◌, Bool, true, false, cond, ◌⊎◌, inl, inr, List, [], ◌∷◌, ◌++◌, length, slice_get, Some, None, IsOk, Option, refl, sym, ap, ◌∙◌, subst, append_assoc, true≢false, arith}
 use Rattle.std.specs.List.{filter, cons_option}
+use Rattle.keys.specs.Orders.{TotalOrder}
 use Rattle.std.proofs.lemmas.List.{append-nil, take_all}
 use Rattle.std.proofs.lemmas.List.Sums.{length-filter}
 use Rattle.std.proofs.lemmas.List.Elements.{filter-append, filter_map-append, filter_passes, recursion_from_All}
@@ -13,10 +14,11 @@ use Rattle.records.specs.Logs.{LogFault, Log, log_of, all_records, encode_all}
 use Rattle.records.proofs.Logging.{log_laws}
 use Rattle.model.specs.Contents.{Content}
 use Rattle.model.specs.Plans.{Plan, after, Entries}
-use Rattle.model.specs.Neighbours.{Neighbours}
+use Rattle.model.proofs.Handing.{runs_hand_over}
 use Rattle.model.specs.Laws.{Lawful}
 use Rattle.feeding.specs.Feeding.{places_from, keys_of, room, is_entry, full_at, answer_by}
 use Rattle.feeding.proofs.Beginnings.{places_length, entries_count}
+use Rattle.work.specs.Runs.{Near}
 use Rattle.work.specs.ShorterLogs.{fed_fresh, FedToEnd, NeighboursByLogs}
 
 -- records of which one is left out can still be written
@@ -102,9 +104,9 @@ module _ {K : Type 0} (plan : Plan K) (gives : RecordValue → Option K) where
   entries_append rs others =
       ap (filter plan.admits) (filter_map-append gives rs others) ∙ filter-append plan.admits (keys_of gives rs) (keys_of gives others)
 
-  module _ (less : K → K → Bool) (lawful : Lawful less plan) where
+  module _ (less : K → K → Bool) (order : TotalOrder less) (lawful : Lawful less plan) where
     abbrev SameOrNear : List K → List K → Type 0
-    SameOrNear es fs = (after plan es ≡ after plan fs) ⊎ Neighbours less (after plan es) (after plan fs)
+    SameOrNear es fs = (after plan es ≡ after plan fs) ⊎ Near less (after plan es) (after plan fs)
 
     -- what a record gives is one entry more, or none
     one_record : (es ks : List K) (o : Option K) → Entries plan (es ++ filter plan.admits (cons_option o ks)) →
@@ -114,7 +116,10 @@ module _ {K : Type 0} (plan : Plan K) (gives : RecordValue → Option K) where
       where
         by : (admitted : Bool) → Entries plan (es ++ cond admitted (x ∷ filter plan.admits ks) (filter plan.admits ks)) →
             SameOrNear (es ++ cond admitted (x ∷ filter plan.admits ks) (filter plan.admits ks)) (es ++ filter plan.admits ks)
-        by true e = inr (lawful.neighbours es x (filter plan.admits ks) e)
+        by true e = inr (record {
+          neighbours = lawful.neighbours es x (filter plan.admits ks) e;
+          hand_over = runs_hand_over less order plan lawful es x (filter plan.admits ks) e;
+        })
         by false e = inl refl
 
     less_one : (rs : List RecordValue) (r : RecordValue) (others : List RecordValue) → Entries plan (entries (rs ++ r ∷ others)) →
@@ -125,8 +130,8 @@ module _ {K : Type 0} (plan : Plan K) (gives : RecordValue → Option K) where
         (subst (λ es. SameOrNear es (entries rs ++ entries others)) (sym longer)
         (one_record (entries rs) (keys_of gives others) (gives r) (subst (Entries plan) longer e)))
 
-pub neighbours_by_logs : {K : Type 0} (less : K → K → Bool) (plan : Plan K) → Lawful less plan → NeighboursByLogs less plan
-neighbours_by_logs {K} less plan lawful gives log shorter h to_end shorter_to_end =
+pub neighbours_by_logs : {K : Type 0} (less : K → K → Bool) → TotalOrder less → (plan : Plan K) → Lawful less plan → NeighboursByLogs less plan
+neighbours_by_logs {K} less order plan lawful gives log shorter h to_end shorter_to_end =
     let rs : List RecordValue = h.one_fewer.before in
     let r : RecordValue = h.one_fewer.gone in
     let others : List RecordValue = h.one_fewer.behind in
@@ -135,6 +140,6 @@ neighbours_by_logs {K} less plan lawful gives log shorter h to_end shorter_to_en
     let long : fed_fresh plan gives log ≡ after plan (entries plan gives (rs ++ r ∷ others)) = adds_all plan gives log (rs ++ r ∷ others) parts to_end in
     let short : fed_fresh plan gives shorter ≡ after plan (entries plan gives (rs ++ others)) =
     adds_all plan gives shorter (rs ++ others) (shorter_records log shorter h.bytes rs r others parts is) shorter_to_end in
-    subst (λ (C : Content K). (C ≡ fed_fresh plan gives shorter) ⊎ Neighbours less C (fed_fresh plan gives shorter)) (sym long)
-    (subst (λ (D : Content K). (after plan (entries plan gives (rs ++ r ∷ others)) ≡ D) ⊎ Neighbours less (after plan (entries plan gives (rs ++ r ∷ others))) D) (sym short)
-    (less_one plan gives less lawful rs r others (entries_fit plan gives log (rs ++ r ∷ others) parts to_end)))
+    subst (λ (C : Content K). (C ≡ fed_fresh plan gives shorter) ⊎ Near less C (fed_fresh plan gives shorter)) (sym long)
+    (subst (λ (D : Content K). (after plan (entries plan gives (rs ++ r ∷ others)) ≡ D) ⊎ Near less (after plan (entries plan gives (rs ++ r ∷ others))) D) (sym short)
+    (less_one plan gives less order lawful rs r others (entries_fit plan gives log (rs ++ r ∷ others) parts to_end)))

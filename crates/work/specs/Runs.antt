@@ -1,15 +1,18 @@
 -- The law over runs: what holds at every point of any list of calls, and what each call answers and writes.
-use Rattle.std.specs.Prelude.{◌≡◌, ℕ, ◌+◌, ◌*◌, Bool, List, [], ◌∷◌, ◌++◌, length, take, drop, slice_get, Some, Option}
-use Rattle.std.specs.List.{sum_by}
+use Rattle.std.specs.Prelude.{◌≡◌, ℕ, ◌+◌, ◌*◌, Bool, ◌⊎◌, List, [], ◌∷◌, ◌++◌, length, take, slice_get, Some, Option}
+use Rattle.std.specs.List.{count_by}
 use Rattle.records.specs.Values.{RecordValue}
 use Rattle.model.specs.Contents.{Content, total}
 use Rattle.model.specs.Plans.{Plan, after, Entries}
 use Rattle.model.specs.Neighbours.{Neighbours}
 use Rattle.model.specs.Laws.{HoldsK, Bounded}
-use Rattle.pages.specs.declared.line.Line.{Line}
+use Rattle.model.specs.Handing.{BothHandOver}
+use Rattle.release.specs.Books.{BookState}
 use Rattle.work.specs.declared.call.Call.{Call}
 use Rattle.work.specs.declared.call.Answer.{Answer}
-use Rattle.work.specs.Calls.{with_call, content_with, answer_of, own_lines, output_of}
+use Rattle.work.specs.Memories.{Memory, part_of, beyond}
+use Rattle.work.specs.Calls.{entries_with, content_with, books_with, answer_of, memory_with}
+use Rattle.work.specs.Permits.{is_list, OneEach}
 
 -- two lists of which the second is the first without one item
 pub record OneFewer {X : Type 0} (xs fewer : List X) : Type 0 where
@@ -18,6 +21,13 @@ pub record OneFewer {X : Type 0} (xs fewer : List X) : Type 0 where
   pub behind : List X
   pub whole : xs ≡ before ++ gone ∷ behind
   pub others : fewer ≡ before ++ behind
+
+module _ {K : Type 0} (less : K → K → Bool) where
+  -- C and D are neighbours, C of one entry more; and whichever is called the first, on the premise a list of it also comes
+  -- from the other
+  pub record Near (C D : Content K) : Type 0 where
+    pub neighbours : Neighbours less C D
+    pub hand_over : BothHandOver less C D
 
 module _ {K : Type 0} (less : K → K → Bool) (plan : Plan K) where
   -- What holds of a content C after these entries: exactly k keys are held, all different, in order; (k + 1) times l and
@@ -35,44 +45,51 @@ module _ {K : Type 0} (less : K → K → Bool) (plan : Plan K) where
     pub entries : Entries plan es
     pub content : C ≡ after plan es
     pub counted : Counted es C
-    -- an alike summary, which is one of the same plan, that has taken these entries without one has a neighbouring content
-    pub neighbours : (fewer : List K) → OneFewer es fewer → Neighbours less C (after plan fewer)
+    -- an alike summary, which is one of the same plan, that has taken these entries without one
+    pub alike : (fewer : List K) → OneFewer es fewer → Near less C (after plan fewer)
+    -- and any content that holds its k keys in order and neighbours C, as that of more entries or of fewer
+    pub hands_over : (D : Content K) → HoldsK less D → (Neighbours less C D ⊎ Neighbours less D C) → BothHandOver less C D
 
 module _ {K L : Type 0} where
-  -- where in the output the part of the next call begins
-  abbrev pub next_part : List (Call K L) → ℕ
-  next_part calls = sum_by own_lines calls
-
-  -- of an output, the part of the call c that comes after these calls; it is cut where the output ends
-  abbrev pub part_of : {X : Type 0} → List (Call K L) → Call K L → List X → List X
-  part_of before c output = take (own_lines c) (drop (next_part before) output)
+  -- the memory without the parts of a call
+  abbrev pub rest_of : Call K L → Memory K → Memory K
+  rest_of c m = beyond (c ∷ []) m
 
 module _ {K L : Type 0} (gives : L → RecordValue → Option K) (plan : Plan K) where
   -- the entries after these calls
-  abbrev pub with_calls : List K → List (Call K L) → List K
-  with_calls es [] = es
-  with_calls es (c ∷ cs) = with_calls (with_call gives plan es c) cs
+  abbrev pub entries_after : List K → List (Call K L) → List K
+  entries_after es [] = es
+  entries_after es (c ∷ cs) = entries_after (entries_with gives plan es c) cs
 
   -- the content after these calls
   abbrev pub content_after : Content K → List (Call K L) → Content K
   content_after C [] = C
   content_after C (c ∷ cs) = content_after (content_with gives plan C c) cs
 
-  module _ (less : K → K → Bool) where
-    -- a call made at the content C, after these calls: what it answers, and what it writes to its own part of the output
-    pub record Made (C : Content K) (before : List (Call K L)) (c : Call K L) (answer : Option (Answer K)) (old new : List (Line K)) : Type 0 where
-      pub answered : answer ≡ Some (answer_of gives plan less C c (length (part_of before c old)))
-      pub written : part_of before c new ≡ output_of C c (part_of before c old)
+  -- the books after these calls, with this memory as it was before them
+  abbrev pub books_after : Content K → List BookState → Memory K → List (Call K L) → List BookState
+  books_after C bs m [] = bs
+  books_after C bs m (c ∷ cs) = books_after (content_with gives plan C c) (books_with C bs c (part_of [] c m)) (rest_of c m) cs
 
-    -- a run of these calls, from the content C to the content D
-    pub record Run (C : Content K) (calls : List (Call K L)) (D : Content K) (answers : List (Answer K)) (old new : List (Line K)) : Type 0 where
+  module _ (less : K → K → Bool) where
+    -- a call made at the content C with these books, after these calls: what it answers, and what it writes to its own
+    -- parts of the memory
+    pub record Made (C : Content K) (bs : List BookState) (before : List (Call K L)) (c : Call K L) (answer : Option (Answer K)) (old new : Memory K) : Type 0 where
+      pub answered : answer ≡ Some (answer_of gives plan less C bs c (part_of before c old))
+      pub written : part_of before c new ≡ memory_with C bs c (part_of before c old)
+
+    -- a run of these calls, from the content C and the books bs to the content D and the books ds
+    pub record Run (C : Content K) (bs : List BookState) (calls : List (Call K L)) (D : Content K) (ds : List BookState) (answers : List (Answer K)) (old new : Memory K) : Type 0 where
       -- at every point, after j calls: of every list of entries after which the content is C, and those that the calls add
       pub points : (es : List K) → Entries plan es → C ≡ after plan es → (j : ℕ) →
-          Point less plan (with_calls es (take j calls)) (content_after C (take j calls))
-      -- the next call answers and writes as it is defined from the content then
+          Point less plan (entries_after es (take j calls)) (content_after C (take j calls))
+      -- the next call answers and writes as it is defined from the content and the books then
       pub made : (j : ℕ) (c : Call K L) → slice_get calls j ≡ Some c →
-          Made (content_after C (take j calls)) (take j calls) c (slice_get answers j) old new
-      -- at the end: the content is that after all calls, and what lies beyond their parts of the output is as it was
+          Made (content_after C (take j calls)) (books_after C bs old (take j calls)) (take j calls) c (slice_get answers j) old new
+      -- at the end: content and books are those after all calls, and what lies beyond their parts of the memory is as it was
       pub ends : D ≡ content_after C calls
-      pub last : (es : List K) → Entries plan es → C ≡ after plan es → Point less plan (with_calls es calls) D
-      pub beyond : drop (next_part calls) new ≡ drop (next_part calls) old
+      pub books : ds ≡ books_after C bs old calls
+      pub last : (es : List K) → Entries plan es → C ≡ after plan es → Point less plan (entries_after es calls) D
+      pub rest : beyond calls new ≡ beyond calls old
+      -- and one permit was spent for each list
+      pub permits : OneEach bs ds (count_by is_list answers)

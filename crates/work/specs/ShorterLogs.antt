@@ -5,9 +5,8 @@ use Rattle.records.specs.Values.{RecordValue}
 use Rattle.records.specs.Logs.{log_of, encode_all}
 use Rattle.model.specs.Contents.{Content}
 use Rattle.model.specs.Plans.{Plan, after_from}
-use Rattle.model.specs.Neighbours.{Neighbours}
 use Rattle.feeding.specs.Feeding.{added, fed_answer}
-use Rattle.work.specs.Runs.{OneFewer}
+use Rattle.work.specs.Runs.{OneFewer, Near}
 
 -- two logs of which the second has the bytes of the first's records without one
 pub record OneRecordFewer (log shorter : List ℕ) : Type 0 where
@@ -26,8 +25,8 @@ module _ {K : Type 0} (plan : Plan K) (gives : RecordValue → Option K) where
   fed_fresh log = after_from plan plan.fresh (added plan plan.fresh gives (log_of log).records)
 
 -- Through any lens, alike fresh summaries that take a log and that log without any one record, both to the end, come to
--- contents that are equal or neighbours.
+-- contents that are equal, or to neighbours of which a list of either, on the premise, also comes from the other.
 abbrev pub NeighboursByLogs : {K : Type 0} → (K → K → Bool) → Plan K → Type 0
 NeighboursByLogs {K} less plan =
     (gives : RecordValue → Option K) (log shorter : List ℕ) → OneRecordFewer log shorter → FedToEnd plan gives log → FedToEnd plan gives shorter →
-    (fed_fresh plan gives log ≡ fed_fresh plan gives shorter) ⊎ Neighbours less (fed_fresh plan gives log) (fed_fresh plan gives shorter)
+    (fed_fresh plan gives log ≡ fed_fresh plan gives shorter) ⊎ Near less (fed_fresh plan gives log) (fed_fresh plan gives shorter)

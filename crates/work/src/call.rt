@@ -13,7 +13,20 @@ pub struct Feeding<'a, L> {
     pub log: &'a [u8],
 }
 
-/// A call with what it is given. A page names how many lines of the output are its own.
+/// What a release is given: the places of the book that issues its permit and of the book that it is made with, which
+/// may be the same; a shared draw; how many of the draws are its own; a threshold; and how many entries of the memory
+/// for lists are its own.
+#[derive(Clone, Copy, Debug, PartialEq, Eq, Hash)]
+pub struct Releasing {
+    pub issuer: usize,
+    pub book: usize,
+    pub shared: i32,
+    pub draws: usize,
+    pub threshold: u32,
+    pub entries: usize,
+}
+
+/// A call with what it is given. A page names how many lines are its own.
 #[derive(Clone, Copy, Debug, PartialEq, Eq, Hash)]
 pub enum Call<'a, K, L> {
     Take(K),
@@ -22,6 +35,7 @@ pub enum Call<'a, K, L> {
     Place(usize),
     Facts,
     Page { limit: u32, lines: usize },
+    Release(Releasing),
 }
 
 /// What a call answered.
@@ -33,4 +47,6 @@ pub enum Answer<K> {
     Place(Option<(Held<K>, u32)>),
     Facts(Facts),
     Page(Result<usize, Refusal>),
+    /// `None` if one of the two books is not there. Refused with 10 if no permit was issued, else as the release was.
+    Release(Option<Result<usize, Refusal>>),
 }

@@ -1,10 +1,13 @@
-//! Which entries of the output a page has, how many calls are made, and the same calls made one by one.
+//! Which lines a page has, how many calls are made, and the same calls made one by one.
 use crate::forms::{answers_right, fed, feed_call, kind, line};
+use keys::event::EventKind;
 use lenses::kind::KindLens;
+use pages::line::Line;
 use std::test::Fail;
 use summaries::answers::{Facts, Taken};
 use summaries::summary::Summary;
 use tally::tally::Tally;
+use work::buffers::Buffers;
 use work::call::{Answer, Call};
 use work::run::work;
 
@@ -31,6 +34,21 @@ fn two_pages(rt: HostRuntime) -> Result<(), Fail> {
     Ok(())
 }
 
+/// Works a tally without books, draws or lists.
+fn worked(
+    tally: &mut Tally,
+    calls: &[Call<'_, EventKind, KindLens>],
+    answers: &mut [Answer<EventKind>],
+    lines: &mut [Line<EventKind>],
+) -> usize {
+    let mut buffers = Buffers {
+        lines,
+        draws: &mut [],
+        lists: &mut [],
+    };
+    work(tally, &mut [], calls, answers, &mut buffers)
+}
+
 #[test]
 fn numbers_of_answers(rt: HostRuntime) -> Result<(), Fail> {
     let (none, one) = (kind(0)?, kind(1)?);
@@ -46,14 +64,26 @@ fn numbers_of_answers(rt: HostRuntime) -> Result<(), Fail> {
     let unwritten = line(none, 8, 9);
     let mut output = [unwritten; 2];
     let mut answers = [unanswered; 4];
-    assert_eq!(rt; work(&mut tally, &calls, &mut answers[..0], &mut output), 0);
-    assert_eq!(rt; work(&mut tally, &calls[..0], &mut answers, &mut output), 0);
+    assert_eq!(rt;
+        worked(&mut tally, &calls, &mut answers[..0], &mut output),
+        0
+    );
+    assert_eq!(rt;
+        worked(&mut tally, &calls[..0], &mut answers, &mut output),
+        0
+    );
     assert_eq!(rt; answers, [unanswered; 4]);
     assert_eq!(rt; tally.facts(), Facts { k: 2, n: 0, l: 0 });
-    assert_eq!(rt; work(&mut tally, &calls, &mut answers[..2], &mut output), 2);
+    assert_eq!(rt;
+        worked(&mut tally, &calls, &mut answers[..2], &mut output),
+        2
+    );
     assert_eq!(rt; answers, [raised, raised, unanswered, unanswered]);
     assert_eq!(rt; tally.facts(), Facts { k: 2, n: 2, l: 0 });
-    assert_eq!(rt; work(&mut tally, &calls, &mut answers[1..], &mut output), 3);
+    assert_eq!(rt;
+        worked(&mut tally, &calls, &mut answers[1..], &mut output),
+        3
+    );
     assert_eq!(rt; answers, [raised; 4]);
     assert_eq!(rt; output, [unwritten; 2]);
     Ok(())

@@ -1,0 +1,2 @@
+pub mod FreshRuns
+pub mod SketchRuns
