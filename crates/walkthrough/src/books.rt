@@ -63,7 +63,7 @@ pub fn show_books(rt: &impl Print, books: &[BookFacts]) -> io::Result<()> {
 }
 
 /// Hands a permit back to its book.
-pub fn give_back(book: &mut Book, permit: Permit)
+pub(crate) fn give_back(book: &mut Book, permit: Permit)
     requires { knows book.old permit ≡ true }
     ensures { book.new ≡ one_back book.old }
 {
@@ -71,7 +71,7 @@ pub fn give_back(book: &mut Book, permit: Permit)
 }
 
 /// Releases a list by a permit of the book, or hands the permit back where the release is refused.
-pub fn release_by<S: Summary>(
+pub(crate) fn release_by<S: Summary>(
     summary: &S,
     book: &mut Book,
     permit: Permit,
@@ -100,7 +100,7 @@ pub fn release_by<S: Summary>(
 }
 
 /// Releases a list by a permit that is issued for it. A permit whose release is refused is handed back.
-pub fn release_new<S: Summary>(
+pub(crate) fn release_new<S: Summary>(
     summary: &S,
     book: &mut Book,
     terms: Terms,
