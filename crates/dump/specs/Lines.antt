@@ -14,6 +14,7 @@ number_part name None = []
 abbrev pub dotted : ℕ → List ℕ
 dotted v = decimal (v / 16_777_216) ++ (codes "." ++ (decimal (v / 65_536 % 256) ++ (codes "." ++ (decimal (v / 256 % 256) ++ (codes "." ++ decimal (v % 256))))))
 
+-- the address with its name; nothing where it is missing
 abbrev pub source_part : Option ℕ → List ℕ
 source_part (Some v) = codes " source " ++ dotted v
 source_part None = []
@@ -38,6 +39,7 @@ line_of index r =
     decimal index ++ (number_part (codes "time") r.time ++ (number_part (codes "kind") r.kind ++ (number_part (codes "console") r.console
     ++ (source_part r.source ++ (flight_part r.flight ++ codes "\n")))))
 
+-- the lines of these records, of which the first has this index
 abbrev pub lines_from : (index : ℕ) → List RecordValue → List ℕ
 lines_from index [] = []
 lines_from index (r ∷ rs) = line_of index r ++ lines_from (index + 1) rs
@@ -52,6 +54,7 @@ last_line count (Some f) =
 abbrev pub text_from : (index : ℕ) → Log → List ℕ
 text_from index log = lines_from index log.records ++ last_line (index + length log.records) log.fault
 
+-- a log's text
 abbrev pub text_of : Log → List ℕ
 text_of log = text_from 0 log
 

@@ -1,5 +1,5 @@
-//! A log as text: one line for each record, then how many there are, or where the log is torn. Rests on
-//! records, and on keys for the numbers of refusals.
+//! A log as text: one line for each record, then how many there are, or the fault. Rests on records, and on keys for
+//! the numbers of refusals.
 #![tactic(auto)]
 
 mod lines;

@@ -88,7 +88,7 @@ impl fmt::Display for RecordLine<'_> {
     }
 }
 
-/// The last line of a torn log.
+/// The last line of a log that has a fault.
 #[derive(Clone, Copy)]
 struct FaultLine(LogFault);
 

@@ -1,12 +1,13 @@
 -- What feeding a log to a summary adds and answers, from the summary's plan and content and from what the lens gives of
 -- each record.
-use Rattle.std.specs.Prelude.{ℕ, ◌+◌, ◌-◌, Bool, false, not, cond, List, [], ◌∷◌, ◌++◌, length, take, filter, filter_map, count_by, slice_get, is_none, Some, None, Ok, Err, Option, Result}
+use Rattle.std.specs.Prelude.{◌≡◌, ℕ, ◌+◌, ◌-◌, ◌≤◌, Bool, true, false, not, cond, List, [], ◌∷◌, ◌++◌, length, take, filter, filter_map, count_by, slice_get, is_none, Some, None, Ok, Err, Option, Result}
 use Rattle.keys.specs.declared.refusal.Refusal.TheVariants.{Full}
 use Rattle.records.specs.Values.{RecordValue}
 use Rattle.records.specs.Logs.{LogFault, Log, encode_all}
 use Rattle.model.specs.Contents.{Content}
 use Rattle.model.specs.Plans.{Plan, most_entries}
-use Rattle.feeding.specs.declared.fault.Cause.TheVariants.{Summary}
+use Rattle.feeding.specs.declared.fault.Cause.{Cause}
+use Rattle.feeding.specs.declared.fault.Cause.TheVariants.{Reader, Summary}
 use Rattle.feeding.specs.declared.fault.FeedFault.{FeedFault}
 use Rattle.feeding.specs.declared.feed.Fed.{Fed}
 use Rattle.feeding.specs.Faults.{reader_fault}
@@ -19,6 +20,10 @@ places_from p place (x ∷ xs) = cond (p x) (place ∷ []) [] ++ places_from p (
 -- the keys of the records that give one, in order
 abbrev pub keys_of : {K : Type 0} → (RecordValue → Option K) → List RecordValue → List K
 keys_of gives rs = filter_map gives rs
+
+-- those that the summary admits
+abbrev pub admitted_keys : {K : Type 0} → Plan K → (RecordValue → Option K) → List RecordValue → List K
+admitted_keys plan gives rs = filter plan.admits (keys_of gives rs)
 
 -- how many entries a summary of this content can still take
 abbrev pub room : {K : Type 0} → Content K → ℕ
@@ -41,7 +46,7 @@ fed_of plan gives rs = record {
 module _ {K : Type 0} (plan : Plan K) (C : Content K) (gives : RecordValue → Option K) where
   -- the entries that feeding adds: the admitted keys, as many as there is room for
   abbrev pub added : List RecordValue → List K
-  added rs = take (room C) (filter plan.admits (keys_of gives rs))
+  added rs = take (room C) (admitted_keys plan gives rs)
 
   -- The index of the record that finds the summary full: of those that give an admitted key, the first that there is no
   -- room for.
@@ -57,3 +62,27 @@ module _ {K : Type 0} (plan : Plan K) (C : Content K) (gives : RecordValue → O
   -- what feeding a log answers
   abbrev pub fed_answer : Log → Result Fed FeedFault
   fed_answer log = answer_by (full_at log.records) log.fault log.records
+
+  -- there is room for all admitted keys of these records
+  abbrev pub AllFit : List RecordValue → Type 0
+  AllFit rs = length (admitted_keys plan gives rs) ≤ room C
+
+  -- Of these records the one of the index i finds the summary full: those before it give as many admitted keys as there is
+  -- room for, and it gives one too.
+  pub record FoundFull (rs : List RecordValue) (i : ℕ) : Type 0 where
+    pub filled : length (admitted_keys plan gives (take i rs)) ≡ room C
+    pub finder : RecordValue
+    pub there : slice_get rs i ≡ Some finder
+    pub key : K
+    pub given : gives finder ≡ Some key
+    pub admitted : plan.admits key ≡ true
+
+  -- by whose fault it is, with its record's index
+  abbrev pub RoomBy : List RecordValue → Cause → (index : ℕ) → Type 0
+  RoomBy rs (Reader f) index = AllFit rs
+  RoomBy rs (Summary refusal) index = FoundFull rs index
+
+  -- what an answer says of the room: the summary's refusal, that this record found it full; any other, that all keys fit
+  unfoldable pub RoomLaw : List RecordValue → Result Fed FeedFault → Type 0
+  RoomLaw rs (Ok fed) = AllFit rs
+  RoomLaw rs (Err f) = RoomBy rs f.cause f.index

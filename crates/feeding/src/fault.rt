@@ -13,6 +13,16 @@ pub enum Cause {
     Summary(Refusal),
 }
 
+impl From<ReadFault> for Cause {
+    ghost use Rattle.feeding.specs.declared.fault.Cause.TheVariants.{Reader};
+
+    ghost from_gives = { λ fault made. made ≡ Reader fault };
+
+    fn from(fault: ReadFault) -> Cause {
+        Cause::Reader(fault)
+    }
+}
+
 /// A fault with its place: the record's index from 0, and an offset from the log's start. Of the reader's fault it is
 /// the fault's own place, of the summary's refusal the record's first byte.
 #[derive(Clone, Copy, Debug, PartialEq, Eq, Hash)]
@@ -27,7 +37,7 @@ impl From<LogFault> for FeedFault {
 
     fn from(fault: LogFault) -> FeedFault {
         FeedFault {
-            cause: Cause::Reader(fault.fault),
+            cause: Cause::from(fault.fault),
             index: fault.index,
             offset: fault.offset,
         }

@@ -2,7 +2,7 @@
 ghost use Rattle.std.specs.Prelude.{◌≡◌, ◌+◌, IfOk, OnOk};
 ghost use Rattle.records.specs.Logs.{log_of, encode_all};
 ghost use Rattle.model.specs.Plans.{after_from};
-ghost use Rattle.feeding.specs.Feeding.{added, fed_answer};
+ghost use Rattle.feeding.specs.Feeding.{added, fed_answer, RoomLaw};
 
 use crate::fault::{Cause, FeedFault};
 use keys::refusal::Refusal;
@@ -22,7 +22,7 @@ pub struct Fed {
 
 /// Gives a summary the keys of a log's records, in order, up to the first fault or the first refusal with 7; what it has
 /// taken before that stays.
-#[tactic(auto, using(crate::proofs::Feeding::all_content, crate::proofs::Feeding::all_answer, crate::proofs::Feeding::whole_log))]
+#[tactic(auto, using(crate::proofs::Feeding::all_content, crate::proofs::Feeding::all_answer, crate::proofs::Feeding::whole_log, crate::proofs::Room::room_law, crate::proofs::Room::taken_grows))]
 pub fn feed<S: Summary, L: Lens<Key = S::Key>>(
     summary: &mut S,
     lens: &L,
@@ -34,6 +34,8 @@ pub fn feed<S: Summary, L: Lens<Key = S::Key>>(
     ensures stays { S.stays summary.old summary.new }
     ensures answer { result ≡ fed_answer (S.plan summary.old) (S.content summary.old) (L.gives lens.now) (log_of log.now) }
     ensures whole { OnOk result (log.now ≡ encode_all (log_of log.now).records) }
+    ensures room { RoomLaw (S.plan summary.old) (S.content summary.old) (L.gives lens.now) (log_of log.now).records result }
+    ensures grown { IfOk result (λ fed. (S.content summary.new).n ≡ (S.content summary.old).n + fed.taken) }
     ensures parts { IfOk result (λ fed. fed.read ≡ fed.absent + fed.passed_over + fed.taken) }
 {
     let mut fed = Fed {

@@ -1,7 +1,5 @@
 -- The law over runs, of a summary that was just made: nothing is asked of the entries before, since there are none.
-use Rattle.std.specs.Prelude.{◌≡◌, ℕ, ◌&&◌, Bool, cond, nat_le, min, List, [], length, take, drop, Option, Some, None, Result, Ok, Err}
-use Rattle.keys.specs.declared.refusal.Refusal.{Refusal}
-use Rattle.keys.specs.declared.refusal.Refusal.TheVariants.{OutOfRange}
+use Rattle.std.specs.Prelude.{◌≡◌, ℕ, Bool, min, List, [], length, take, drop, Option}
 use Rattle.records.specs.Values.{RecordValue}
 use Rattle.model.specs.Contents.{Content}
 use Rattle.model.specs.Plans.{Plan}
@@ -27,12 +25,3 @@ module _ {K L : Type 0} (gives : L → RecordValue → Option K) (plan : Plan K)
     pub number : worked ≡ min (length calls) (length answers)
     pub others : drop worked answers_after ≡ drop worked answers
     pub fresh_run : FreshRun bs (take worked calls) D ds (take worked answers_after) old new
-
--- the refusal, if it is one
-abbrev pub refused_with : {X : Type 0} → Result X Refusal → Option Refusal
-refused_with (Ok x) = None
-refused_with (Err refusal) = Some refusal
-
--- a tally has 2 to 64 kinds
-abbrev pub tally_refusal : (k : ℕ) → Option Refusal
-tally_refusal k = cond (nat_le 2 k && nat_le k 64) None (Some OutOfRange)

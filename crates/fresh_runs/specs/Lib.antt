@@ -1,2 +1,1 @@
 pub mod FreshRuns
-pub mod SketchRuns

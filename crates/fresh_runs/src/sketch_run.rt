@@ -1,13 +1,12 @@
 //! A sketch, made in cells that the caller lends, and worked.
 ghost use Rattle.std.specs.Prelude.{◌≡◌, IfOk, IfErr, length};
 ghost use Rattle.model.specs.Sketches.{sketch};
-ghost use Rattle.sketch.specs.Making.{make_answer};
+ghost use Rattle.sketch.specs.Making.{make_answer, refusal_of};
 ghost use Rattle.sketch.specs.Orders.{LentFirst};
 ghost use Rattle.sketch.specs.Sketches.{content_of};
 ghost use Rattle.work.specs.Memories.{memory_of, SameBuffers};
 ghost use Rattle.work.specs.Permits.{all_out};
 ghost use Rattle.fresh_runs.specs.FreshRuns.{Worked};
-ghost use Rattle.fresh_runs.specs.SketchRuns.{refusal_of};
 
 use crate::fresh::work_fresh;
 use keys::held::Held;

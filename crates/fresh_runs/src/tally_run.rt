@@ -1,11 +1,13 @@
 //! A tally, made and worked.
 ghost use Rattle.std.specs.Prelude.{◌≡◌, IfOk, IfErr};
+ghost use Rattle.std.specs.Result.{result_err};
 ghost use Rattle.keys.specs.KindOrders.{less_event};
 ghost use Rattle.model.specs.Tallies.{tally};
 ghost use Rattle.tally.specs.Contents.{content_of};
+ghost use Rattle.tally.specs.Making.{made};
 ghost use Rattle.work.specs.Memories.{memory_of, SameBuffers};
 ghost use Rattle.work.specs.Permits.{all_out};
-ghost use Rattle.fresh_runs.specs.FreshRuns.{Worked, refused_with, tally_refusal};
+ghost use Rattle.fresh_runs.specs.FreshRuns.{Worked};
 
 use crate::fresh::work_fresh;
 use keys::event::EventKind;
@@ -26,7 +28,7 @@ pub fn work_tally<L: Lens<Key = EventKind>>(
     buffers: &mut Buffers<'_, EventKind>,
 ) -> Result<(Tally, usize), Refusal>
     ensures same { SameBuffers buffers.old buffers.new }
-    ensures answer { refused_with result ≡ tally_refusal k }
+    ensures answer { result_err result ≡ result_err (made k) }
     ensures plan { IfOk result (λ r. tally r.0.k ≡ tally k) }
     ensures worked { IfOk result (λ r. Worked L.gives (tally k) less_event books.old calls.now (content_of r.0.k r.0.n r.0.counts) books.new
         answers.old answers.new (memory_of buffers.old) (memory_of buffers.new) r.1) }

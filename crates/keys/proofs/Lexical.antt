@@ -1,8 +1,7 @@
--- The first wrong byte of a list: `first_wrong` is its place, and no other place is one; and zeros behind a word.
-use Rattle.std.proofs.Common.{◌≡◌, ℕ, zero, suc, ◌<◌, ◌≤◌, Bool, true, false, cond, List, [], ◌∷◌, ◌++◌, ◌+◌, ◌-◌, take, set, replicate, get_or, sym, refl, ap, ◌∙◌, true≢false, rules, arith}
+-- The first wrong byte of a list: `first_wrong` is its place.
+use Rattle.std.proofs.Common.{◌≡◌, ℕ, zero, suc, ◌<◌, ◌≤◌, Bool, true, false, cond, List, [], ◌∷◌, get_or, sym, refl, ◌∙◌, rules, arith}
 use Rattle.std.specs.Prelude.{unwrap_or, not, length, nat_lt, Some, None}
 use Rattle.std.specs.List.{position_or_len}
-use Rattle.std.proofs.lemmas.List.{length-take-le, set_at, take_more, append_assoc}
 use Rattle.std.proofs.lemmas.List.Sums.{prefix_len-le-length}
 use Rattle.std.proofs.lemmas.List.Recursion.{is_position_or_len}
 use Rattle.std.proofs.lemmas.Bool.Decides.{nat_tests}
@@ -20,20 +19,7 @@ chosen n most h = grind (arith, nat_tests, common_steps)
 pub wrong_value : (bs : List ℕ) → unwrap_or (wrong_place bs) (length bs) ≡ first_wrong bs
 wrong_value bs = chosen (position_or_len (λ b. not (word_byte b)) bs) (length bs) (prefix_len-le-length _ bs) ∙ sym (wrong_first bs)
 
--- the first wrong place is the only one that its name fits
-first_at : (b : ℕ) (bs : List ℕ) (place : ℕ) (t : Bool) → word_byte b ≡ t → FirstWrong (b ∷ bs) place →
-    ((p : ℕ) → FirstWrong bs p → p ≡ first_wrong bs) → place ≡ cond t (suc (first_wrong bs)) 0
-first_at b bs zero true e h later = absurd (true≢false (sym e ∙ h.found (omega arith)))
-first_at b bs (suc p) true e h later =
-    ap suc (later p (record { within = omega (arith, h.within); before = λ i l. h.before (suc i) (omega arith); found = λ l. h.found (omega arith) }))
-first_at b bs zero false e h later = refl
-first_at b bs (suc p) false e h later = absurd (true≢false (sym (h.before 0 (omega arith)) ∙ e))
-
-pub first_only : (bs : List ℕ) (place : ℕ) → FirstWrong bs place → place ≡ first_wrong bs
-first_only [] place h = omega (arith, h.within)
-first_only (b ∷ bs) place h = first_at b bs place (word_byte b) refl h (first_only bs)
-
--- and its name does fit it
+-- what its name says holds of it
 before_more : (b : ℕ) (bs : List ℕ) (place i : ℕ) → word_byte b ≡ true → FirstWrong bs place → i < suc place → word_byte (get_or (b ∷ bs) i 0) ≡ true
 before_more b bs place zero e h l = e
 before_more b bs place (suc i) e h l = h.before i (omega arith)
@@ -45,14 +31,3 @@ first_more b bs false e h = record { within = omega arith; before = λ i l. absu
 pub first_is : (bs : List ℕ) → FirstWrong bs (first_wrong bs)
 first_is [] = record { within = omega arith; before = λ i l. absurd (omega arith); found = λ l. absurd (omega arith) }
 first_is (b ∷ bs) = first_more b bs (word_byte b) refl (first_is bs)
-
--- one more byte of a word before the zeros
-pub fill_more : (w : List ℕ) (i : ℕ) → i < length w → length w ≤ 8 → set (take i w ++ replicate (8 - i) 0) i (get_or w i 0) ≡ take (i + 1) w ++ replicate (8 - (i + 1)) 0
-fill_more w i h l =
-    let m = 8 - (i + 1) in
-    let e : 8 - i ≡ suc m = omega arith in
-    let p : length (take i w) ≡ i = length-take-le i w (omega arith) in
-    let s = set_at (take i w) 0 (replicate m 0) (get_or w i 0) i p in
-    let t = take_more w i 0 h in
-    let a = append_assoc (take i w) (get_or w i 0 ∷ []) (replicate m 0) in
-    rw (e, t) (s ∙ sym a)

@@ -1,3 +1,4 @@
 pub mod Lexical
 pub mod Making
 pub mod SortedLemmas
+pub mod Lists

@@ -8,6 +8,6 @@ Rising less [] = Unit {0}
 Rising {X} {Y} less (e ∷ h) = AllByRecursion (λ (f : X × Y). less e.0 f.0 ≡ true) h × Rising less h
 
 -- a key, with what is beside it, comes in before the first key that it is less than
-abbrev pub insert : {X Y : Type 0} → (X → X → Bool) → X × Y → List (X × Y) → List (X × Y)
-insert less e [] = e ∷ []
-insert less e (f ∷ h) = cond (less e.0 f.0) (e ∷ f ∷ h) (f ∷ insert less e h)
+abbrev pub insert_sorted : {X Y : Type 0} → (X → X → Bool) → X × Y → List (X × Y) → List (X × Y)
+insert_sorted less e [] = e ∷ []
+insert_sorted less e (f ∷ h) = cond (less e.0 f.0) (e ∷ f ∷ h) (f ∷ insert_sorted less e h)

@@ -1,13 +1,13 @@
--- Total orders: of numbers, by parts, through a function that tells values apart, of words; and the comparisons that
--- answer by them. Idea: std's law makes `cmp` a total order, so a test that says where `cmp` answers less is one too.
-use Rattle.std.specs.Prelude.{◌≡◌, ◌≢◌, not, ℕ, zero, suc, ◌+◌, Bool, true, false, cond, List, [], ◌∷◌, ◌++◌, length, replicate, nat_lt, refl}
-use Rattle.std.specs.Ordering.{MatchOrdering, is_lt, is_gt, ordering_then, nat_cmp}
+-- Total orders: through a function that tells values apart, of words; and the comparisons that answer by them. Idea:
+-- std's law makes `cmp` a total order, so a test that says where `cmp` answers less is one too.
+use Rattle.std.specs.Prelude.{◌≡◌, ◌≢◌, not, ℕ, zero, suc, ◌+◌, Bool, true, false, cond, List, [], ◌∷◌, ◌++◌, length, replicate, refl}
+use Rattle.std.specs.Ordering.{MatchOrdering, is_lt, ordering_then, nat_cmp}
 use Rattle.std.specs.Cmp.{IsTotalOrder, tied_itself}
 use Rattle.std.specs.Cmp.Lexicographic.{slice_cmp}
-use Rattle.std.proofs.Common.{Ordering, Equal, sym, ap, ◌∙◌, subst, arith, rules}
+use Rattle.std.proofs.Common.{Ordering, Equal, sym, ap, subst, arith, rules}
 use Rattle.std.proofs.lemmas.Bool.Decides.{nat_tests}
 use Rattle.std.proofs.lemmas.Cmp.{same_from_slice_cmp, nat_list_cmp_total}
-use Rattle.keys.specs.Orders.{TotalOrder, ComparesBy, by_parts}
+use Rattle.keys.specs.Orders.{TotalOrder, ComparesBy}
 use Rattle.keys.specs.Words.{less_word, word_byte, first_wrong}
 
 -- three facts give the fourth: of two different values exactly one is less
@@ -22,16 +22,9 @@ pub total : {K : Type 0} (less : K → K → Bool) (irreflexive : (x : K) → le
     (transitive : (x y z : K) → less x y ≡ true → less y z ≡ true → less x z ≡ true) → TotalOrder less
 total less irreflexive connected transitive = search rules
 
-pub number_total : TotalOrder nat_lt
-number_total = search rules
-
 -- an order through a function that tells values apart
 pub total_by : {K L : Type 0} (less : L → L → Bool) (f : K → L) → TotalOrder less → ((x y : K) → f x ≡ f y → x ≡ y) → TotalOrder (λ (x y : K). less (f x) (f y))
 total_by less f s apart = search rules
-
--- two numbers: by the first, then by the second
-pub numbers_total : TotalOrder (λ (p q : ℕ × ℕ). by_parts nat_lt nat_lt p.0 p.1 q.0 q.1)
-numbers_total = search rules
 
 -- the order by which a total `cmp` answers
 pub total_by_cmp : {K : Type 0} {less : K → K → Bool} {R : K → K → Ordering} → IsTotalOrder R → ComparesBy less R → TotalOrder less
@@ -59,14 +52,8 @@ less_word_compares = record {
 }
 
 -- what is known of two words by the answer of `cmp`
-pub before : (xs ys : List ℕ) (o : Ordering) → o ≡ slice_cmp nat_cmp xs ys → is_lt o ≡ less_word xs ys
-before xs ys o h = ap is_lt h ∙ sym (less_word_compares.less_is xs ys)
-
 pub word_ranked : (xs ys : List ℕ) (o : Ordering) → o ≡ slice_cmp nat_cmp xs ys → MatchOrdering o (less_word xs ys ≡ true) (xs ≡ ys) (less_word ys xs ≡ true)
 word_ranked = ranked_by nat_list_cmp_total less_word_compares
-
-pub after : (xs ys : List ℕ) (o : Ordering) → o ≡ slice_cmp nat_cmp xs ys → is_gt o ≡ less_word ys xs
-after = same_from_slice_cmp nat_cmp is_gt (λ xs ys. less_word ys xs) refl (λ _ _. refl) (λ _ _. refl) (λ x y xs ys o h. grind (arith, nat_tests))
 
 pub word_total : TotalOrder less_word
 word_total = total_by_cmp nat_list_cmp_total less_word_compares

@@ -51,14 +51,14 @@ containing_of p address =
     })
 
 -- the addresses of a prefix: from its own on, as many as the bits after the first p can count
-abbrev pub Contains : Prefix → ℕ → Type 0
-Contains k address = (k.address ≤ address) × (address < k.address + 2 ^ (32 - k.bits))
+abbrev pub Covers : Prefix → ℕ → Type 0
+Covers k address = (k.address ≤ address) × (address < k.address + 2 ^ (32 - k.bits))
 
 -- the one prefix of length p that contains an address
 pub record OnlyContaining (p address : ℕ) (k : Prefix) : Type 0 where
   pub long : k.bits ≡ p
-  pub contains : Contains k address
-  pub only : (q : Prefix) → q.bits ≡ p → Contains q address → q ≡ k
+  pub contains : Covers k address
+  pub only : (q : Prefix) → q.bits ≡ p → Covers q address → q ≡ k
 
 -- a word, then zeros up to 8 bytes
 abbrev pub zeroed : List ℕ → List ℕ
@@ -85,6 +85,7 @@ word_parts w h =
     let b = and_parts (nat_le 1 (length w)) (nat_le (length w) 8) a.0 in
     record { some = leb-true 1 (length w) b.0; fits = leb-true (length w) 8 b.1; right = eqb-true (first_wrong w) (length w) a.1 }
 
+-- the flight word of bytes that make one
 abbrev pub word_as : (w : List ℕ) → WordParts w → FlightWord
 word_as w h = record {
   bytes = zeroed w;

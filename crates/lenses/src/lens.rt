@@ -11,6 +11,7 @@ pub trait Lens {
 
     ghost gives: { Self → RecordValue → Option Self.Key };
 
+    /// The key of a record, or none.
     fn key(&self, given: &Record<'_>) -> Option<Self::Key>
         ensures { result ≡ gives self.now (value_of given.now) };
 }

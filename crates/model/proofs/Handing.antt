@@ -10,6 +10,7 @@ use Rattle.keys.specs.Orders.{TotalOrder}
 use Rattle.keys.specs.Helds.{less_held}
 use Rattle.keys.specs.declared.held.Held.{Held}
 use Rattle.keys.specs.KindOrdersLemmas.{held_total}
+use Rattle.keys.proofs.Lists.{all_parts}
 use Rattle.model.specs.Contents.{Content, reals, holds, count_of}
 use Rattle.model.specs.Plans.{Plan, after, Entries}
 use Rattle.model.specs.Neighbours.{FewOnly, CaseOne, CaseAll, Neighbours}
@@ -17,7 +18,6 @@ use Rattle.model.specs.Laws.{HoldsK, Lawful}
 use Rattle.model.specs.Listing.{draw_of}
 use Rattle.model.specs.Handing.{OffByOne, AtMostOneChanged, Below, OnlyBy, Way, handed, Premise, AlsoListed, BothHandOver}
 use Rattle.model.proofs.Sums.{OneOrTwo, one_or_two}
-use Rattle.model.proofs.Runs.{all_parts}
 use Rattle.model.proofs.Valued.{same_valued, draw_by, changed_at, changed_long, changed_there, changed_other, changed_one}
 use Rattle.model.proofs.Ways.{only_count, as_many, a_way}
 

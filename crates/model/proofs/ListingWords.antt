@@ -1,5 +1,5 @@
 -- The list is what the words of the listing rule say, and the words leave nothing else.
-use Rattle.std.proofs.Common.{◌≡◌, Bool, true, false, cond, ◌⊎◌, List, [], ◌∷◌, length, ℤ, ◌≤ℤ◌, ◌<ℤ◌, filter, sym, refl, ap, ◌∙◌, inl, inr, arith}
+use Rattle.std.proofs.Common.{◌≡◌, Bool, true, false, cond, ◌⊎◌, List, [], ◌∷◌, ◌++◌, length, ℤ, ◌≤ℤ◌, ◌<ℤ◌, filter, sym, refl, ap, ◌∙◌, inl, inr, arith}
 use lib.Signed.{le_z}
 use Rattle.std.specs.List.{AllByRecursion}
 use Rattle.std.proofs.lemmas.Int.{ints}
@@ -16,6 +16,11 @@ use Rattle.model.proofs.Rows.{same_rows}
 use Rattle.model.proofs.Valued.{reaches_true, reaches_false, Rising-filter, Rising-valued, beside_kept, beside-valued}
 
 -- the real keys of a list
+pub reals-append : {K Y : Type 0} (a b : List (Held K × Y)) → reals (a ++ b) ≡ reals a ++ reals b
+reals-append [] b = refl
+reals-append ((Real x, y) ∷ a) b = ap (λ r. (x, y) ∷ r) (reals-append a b)
+reals-append ((Dummy j, y) ∷ a) b = reals-append a b
+
 module _ {K Y : Type 0} (less : K → K → Bool) where
   all_reals : (x : K) (r : List (Held K × Y)) → AllByRecursion (λ (f : Held K × Y). less_held less (Real x) f.0 ≡ true) r → AllByRecursion (λ (f : K × Y). less x f.0 ≡ true) (reals r)
   all_reals x [] a = tt

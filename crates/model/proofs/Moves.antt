@@ -9,7 +9,7 @@ use Rattle.keys.specs.Helds.{less_held}
 use Rattle.keys.specs.declared.held.Held.{Held}
 use Rattle.keys.specs.declared.held.Held.TheVariants.{Real}
 use Rattle.keys.specs.KindOrdersLemmas.{same_equal, not_both, held_total}
-use Rattle.keys.specs.Sorted.{Rising, insert}
+use Rattle.keys.specs.Sorted.{Rising, insert_sorted}
 use Rattle.keys.proofs.SortedLemmas.{rising_insert}
 use Rattle.model.specs.Contents.{Counts, Content, is_held}
 use Rattle.model.specs.Plans.{raised}
@@ -75,14 +75,14 @@ module _ {X : Type 0} (less : X → X → Bool) (order : TotalOrder less) where
   none_is x [] s = tt
   none_is x (f ∷ h) s = (λ q. omega (arith, s, subst (λ (z : X). indicator less z x ≡ 1) q (indicator_self less order x)), none_is x h (omega arith))
 
-  Rising-insert : (e : X × ℕ) (h : Counts X) → occurs less h e.0 ≡ 0 → Rising less h → Rising less (insert less e h)
+  Rising-insert : (e : X × ℕ) (h : Counts X) → occurs less h e.0 ≡ 0 → Rising less h → Rising less (insert_sorted less e h)
   Rising-insert e h s p = rising_insert less order e h p (none_is e.0 h s)
 
-  sum-insert : (w : X → ℕ → ℕ) (e : X × ℕ) (h : Counts X) → sum_of w (insert less e h) ≡ sum_of w h + w e.0 e.1
+  sum-insert : (w : X → ℕ → ℕ) (e : X × ℕ) (h : Counts X) → sum_of w (insert_sorted less e h) ≡ sum_of w h + w e.0 e.1
   unfolding sum_of
   sum-insert w e [] = omega arith
   sum-insert w e (f ∷ h) =
-      cond_both _ (e ∷ f ∷ h) (f ∷ insert less e h) (λ t. sum_of w t ≡ w f.0 f.1 + sum_of w h + w e.0 e.1) (λ _. omega arith) (λ _. omega (arith, sum-insert w e h))
+      cond_both _ (e ∷ f ∷ h) (f ∷ insert_sorted less e h) (λ t. sum_of w t ≡ w f.0 f.1 + sum_of w h + w e.0 e.1) (λ _. omega arith) (λ _. omega (arith, sum-insert w e h))
 
   count_at_other : (k x : X) (n : ℕ) → (k ≡ x → ⊥) → count_at less k x n ≡ 0
   unfolding count_at

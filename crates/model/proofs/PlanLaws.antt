@@ -8,12 +8,13 @@ use Rattle.keys.specs.declared.held.Held.{Held}
 use Rattle.keys.specs.declared.held.Held.TheVariants.{Real, Dummy}
 use Rattle.keys.specs.KindOrdersLemmas.{held_total}
 use Rattle.keys.specs.Sorted.{Rising}
+use Rattle.keys.proofs.Lists.{all_parts}
 use Rattle.model.specs.Contents.{Counts, Content, count}
 use Rattle.model.specs.Plans.{Plan, after_from, after, Entries}
 use Rattle.model.specs.Neighbours.{Neighbours}
 use Rattle.model.specs.Laws.{Different, Balanced, Bounded, Lawful}
 use Rattle.model.proofs.Sums.{sum_of, count_at, counted, total-sum, length-sum, count_counted}
-use Rattle.model.proofs.Runs.{Good, Moving, taken_of, taken_real, taken_dummy, good_run, kept_run, after-append, all_parts}
+use Rattle.model.proofs.Runs.{Good, Moving, taken_of, taken_real, taken_dummy, good_run, kept_run, after-append}
 use Rattle.model.proofs.Pairs.{pair_start, pair_run, pair_neighbours}
 
 pub Rising-Different : {X : Type 0} (less : X → X → Bool) → TotalOrder less → (h : Counts X) → Rising less h → Different h

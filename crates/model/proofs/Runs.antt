@@ -120,7 +120,3 @@ module _ {K : Type 0} (less : K → K → Bool) (order : TotalOrder less) where
 pub after-append : {K : Type 0} (plan : Plan K) (C : Content K) (xs ys : List K) → after_from plan C (xs ++ ys) ≡ after_from plan (after_from plan C xs) ys
 after-append plan C [] ys = refl
 after-append plan C (x ∷ xs) ys = after-append plan (plan.rule C x) xs ys
-
-pub all_parts : {X : Type 0} (P : X → Type 0) (xs ys : List X) → AllByRecursion P (xs ++ ys) → AllByRecursion P xs × AllByRecursion P ys
-all_parts P [] ys a = (tt, a)
-all_parts P (x ∷ xs) ys a = let r = all_parts P xs ys a.1 in ((a.0, r.0), r.1)

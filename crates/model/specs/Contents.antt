@@ -9,7 +9,7 @@ use Rattle.keys.specs.declared.held.Held.TheVariants.{Real, Dummy}
 abbrev pub Counts : Type 0 → Type 0
 Counts X = List (X × ℕ)
 
--- A key in a content is a real key or a dummy, a place that no real key has taken yet.
+-- A key in a content is a real key or a dummy, which stands for a real key that is not there yet.
 pub record Content (K : Type 0) : Type 0 where
   -- how many keys are held
   pub k : ℕ

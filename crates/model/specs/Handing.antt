@@ -65,6 +65,7 @@ module _ {K : Type 0} (less : K → K → Bool) (C D : Content K) where
 abbrev pub BothHandOver : {K : Type 0} → (K → K → Bool) → (C D : Content K) → Type 0
 BothHandOver less C D = HandsOver less C D × HandsOver less D C
 
+-- so do any two neighbours that keep law 1
 abbrev pub HandingOver : Type 0 → Type 0
 HandingOver K =
     (less : K → K → Bool) → TotalOrder less → (C D : Content K) → HoldsK less C → HoldsK less D → Neighbours less C D → BothHandOver less C D

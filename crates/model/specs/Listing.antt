@@ -23,7 +23,7 @@ reaches t v = int_le t v
 abbrev pub listed : {K : Type 0} → Content K → (shared : ℤ) (draws : List ℤ) (threshold : ℤ) → List (K × ℤ)
 listed {K} C s ds t = reals (filter (λ (e : Held K × ℤ). reaches t e.1) (valued C.held s ds))
 
--- the draw of the key x
+-- the draw of the key x; 0 if the key is not held, or has no draw
 abbrev pub draw : {X : Type 0} → (X → X → Bool) → Counts X → List ℤ → X → ℤ
 draw less [] ds x = pos 0
 draw less (e ∷ h) [] x = pos 0
@@ -56,6 +56,7 @@ module _ {K : Type 0} (less : K → K → Bool) (C : Content K) where
     pub is_list : IsList s ds t (listed C s ds t)
     pub nothing_else : (r : List (K × ℤ)) → IsList s ds t r → r ≡ listed C s ds t
 
+-- so it is of every content that holds k keys, which rise, with as many draws, whatever the draws and the threshold
 abbrev pub ListingRule : Type 0 → Type 0
 ListingRule K =
     (less : K → K → Bool) → TotalOrder less → (C : Content K) → HoldsK less C → (s : ℤ) (ds : List ℤ) (t : ℤ) → length ds ≡ C.k → OneList less C s ds t

@@ -5,6 +5,7 @@ use Rattle.keys.specs.Orders.{same}
 use Rattle.keys.specs.declared.held.Held.{Held}
 use Rattle.model.specs.Contents.{Counts, Content}
 
+-- what a summary holds when it is fresh, and what it does with a key that is given
 pub record Plan (K : Type 0) : Type 0 where
   -- the content before any entry
   pub fresh : Content K
@@ -35,6 +36,6 @@ pub record Entries {K : Type 0} (plan : Plan K) (es : List K) : Type 0 where
 abbrev pub one_more : {K : Type 0} → Content K → (l : ℕ) → Counts (Held K) → Content K
 one_more C l h = record { k = C.k; n = C.n + 1; l = l; held = h }
 
--- and keys of which x counts 1 more
+-- the keys held, of which x counts 1 more
 abbrev pub raised : {X : Type 0} → (X → X → Bool) → X → Counts X → Counts X
 raised {X} less x h = map (λ (e : X × ℕ). (e.0, cond (same less e.0 x) (e.1 + 1) e.1)) h

@@ -2,7 +2,7 @@
 use Rattle.std.specs.Prelude.{◌≡◌, ℕ, zero, suc, ◌+◌, ◌-◌, Bool, true, false, cond, ◌||◌, [], ◌∷◌, map, ◌==◌, nat_lt}
 use Rattle.keys.specs.Orders.{TotalOrder}
 use Rattle.keys.specs.Helds.{less_held}
-use Rattle.keys.specs.Sorted.{insert}
+use Rattle.keys.specs.Sorted.{insert_sorted}
 use Rattle.keys.specs.declared.held.Held.{Held}
 use Rattle.keys.specs.declared.held.Held.TheVariants.{Real, Dummy}
 use Rattle.model.specs.Contents.{Counts, Content, holds}
@@ -30,7 +30,7 @@ lowered {X} h = map (λ (e : X × ℕ). (e.0, e.1 - 1)) h
 module _ {X : Type 0} (less : X → X → Bool) where
   -- the smallest key at 0 leaves, and x comes in
   abbrev pub replaced : X → Counts X → Counts X
-  replaced x h = insert less (newcomer x) (leave h)
+  replaced x h = insert_sorted less (newcomer x) (leave h)
 
 -- n dummies at 0, numbered from j
 abbrev pub dummies_from : {K : Type 0} → (j n : ℕ) → Counts (Held K)

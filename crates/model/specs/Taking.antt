@@ -40,6 +40,7 @@ module _ {K : Type 0} (less : K → K → Bool) (C : Content K) (x : Held K) (D 
     pub others : (y : Held K) → (y ≢ x) → count_of less D y ≡ count_of less C y
     pub lowerings : D.l ≡ C.l
 
+  -- C becomes D by taking x: k stays, n grows by 1, the keys rise, and one of the three happens
   pub record Takes : Type 0 where
     pub k_same : D.k ≡ C.k
     pub n_more : D.n ≡ C.n + 1
@@ -51,5 +52,6 @@ pub record Ruled {K : Type 0} (less : K → K → Bool) (C : Content K) (x : K) 
   pub takes : Takes less C (Real x) (sketch_rule less C x)
   pub nothing_else : (D : Content K) → Takes less C (Real x) D → D ≡ sketch_rule less C x
 
+-- so it is of every content whose keys rise, and every key
 abbrev pub RuleOfTaking : Type 0 → Type 0
 RuleOfTaking K = (less : K → K → Bool) → TotalOrder less → (C : Content K) → Rising (less_held less) C.held → (x : K) → Ruled less C x

@@ -35,6 +35,7 @@ pub record TallyCounts (k : ℕ) (es : List EventKind) : Type 0 where
   pub exact : (e : EventKind) → count_of less_event (after (tally k) es) (Real e) ≡ entries_of less_event es e
   pub never_lowered : (after (tally k) es).l ≡ 0
 
+-- the laws of a tally of k kinds, and what it holds after any entries that it can take
 pub record TallyKeeps (k : ℕ) : Type 0 where
   pub laws : Lawful less_event (tally k)
   pub counts : (es : List EventKind) → Entries (tally k) es → TallyCounts k es

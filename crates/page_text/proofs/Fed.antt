@@ -12,9 +12,9 @@ use Rattle.lenses.specs.Gives.{flight_given}
 use Rattle.feeding.specs.declared.fault.FeedFault.{FeedFault}
 use Rattle.feeding.specs.declared.feed.Fed.{Fed}
 use Rattle.feeding.specs.Feeding.{added, fed_answer}
-use Rattle.page_text.specs.Text.{plan, content_after, answer_of}
+use Rattle.page_text.specs.Text.{text_plan, fed_content, fed_text_answer}
 
-module _ (s t : SketchView FlightWord) (fresh : content_of s ≡ plan.fresh) where
+module _ (s t : SketchView FlightWord) (fresh : content_of s ≡ text_plan.fresh) where
   -- it has 8 places before and after
   eight_before : s.facts.k ≡ 8
   unfolding content_of
@@ -26,12 +26,12 @@ module _ (s t : SketchView FlightWord) (fresh : content_of s ≡ plan.fresh) whe
 
   pub content_fed : (rs : List RecordValue) →
       content_of t ≡ after_from (sketch less_flight s.facts.k) (content_of s) (added (sketch less_flight s.facts.k) (content_of s) flight_given rs) →
-      content_of t ≡ content_after rs
-  unfolding content_after
+      content_of t ≡ fed_content rs
+  unfolding fed_content
   content_fed rs e =
       e ∙ λ i. after_from (sketch less_flight (eight_before i)) (fresh i) (added (sketch less_flight (eight_before i)) (fresh i) flight_given rs)
 
   pub answer_fed : (log : Log) (answer : Result Fed FeedFault) →
-      answer ≡ fed_answer (sketch less_flight s.facts.k) (content_of s) flight_given log → answer ≡ answer_of log
-  unfolding answer_of
+      answer ≡ fed_answer (sketch less_flight s.facts.k) (content_of s) flight_given log → answer ≡ fed_text_answer log
+  unfolding fed_text_answer
   answer_fed log answer e = e ∙ λ i. fed_answer (sketch less_flight (eight_before i)) (fresh i) flight_given log

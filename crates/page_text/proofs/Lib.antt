@@ -1,3 +1,4 @@
 pub mod Texts
 pub mod Pages
 pub mod Fed
+pub mod Bounds

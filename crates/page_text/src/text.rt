@@ -2,7 +2,7 @@
 ghost use Rattle.std.specs.Prelude.{◌≡◌, ◌++◌, flat_map, string_bytes, OnOk};
 ghost use Rattle.records.specs.Logs.{log_of};
 ghost use Rattle.sketch.specs.Sketches.{content_of};
-ghost use Rattle.page_text.specs.Text.{line_text, lines_of, summary_text, plan, content_after, answer_of, text_of};
+ghost use Rattle.page_text.specs.Text.{line_text, lines_of, summary_text, text_plan, fed_content, fed_text_answer, text_of};
 
 use crate::lines::{FaultLine, Head, PageLine};
 use feeding::fault::FeedFault;
@@ -73,9 +73,9 @@ fn push_summary(text: &mut String, sketch: &Sketch<'_, FlightWord>) -> Result<()
 /// Feeds the flight words of a log to a fresh sketch.
 #[tactic(auto, using(crate::proofs::Fed::content_fed, crate::proofs::Fed::answer_fed, crate::proofs::Fed::eight_after))]
 fn feed_fresh(sketch: &mut Sketch<'_, FlightWord>, log: &[u8]) -> Result<Fed, FeedFault>
-    requires { content_of sketch.old ≡ plan.fresh }
-    ensures content { content_of sketch.new ≡ content_after (log_of log.now).records }
-    ensures answer { result ≡ answer_of (log_of log.now) }
+    requires { content_of sketch.old ≡ text_plan.fresh }
+    ensures content { content_of sketch.new ≡ fed_content (log_of log.now).records }
+    ensures answer { result ≡ fed_text_answer (log_of log.now) }
     ensures eight { (content_of sketch.new).k ≡ KEYS }
 {
     feed(sketch, &FlightLens, log)

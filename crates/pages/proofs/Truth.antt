@@ -66,7 +66,7 @@ each_line {K} less l limit g P given ((x, m) ∷ h) a = go (nat_le limit (m + l)
     go false x e r = r
 
 module _ {K : Type 0} (less : K → K → Bool) (order : TotalOrder less) (plan : Plan K) (lawful : Lawful less plan) (C : Content K) (limit : ℕ) (low : C.l < limit) where
-  lines_true : KeepsPageLaw less plan C limit (lines_of C.l limit C.held)
+  pub lines_true : KeepsPageLaw less plan C limit (lines_of C.l limit C.held)
   lines_true es entries is =
       let bounded = subst (Bounded less es) (sym is) (lawful.bounded es entries) in
       let different = subst (λ (D : Content K). Different D.held) (sym is) (lawful.holds_k es entries).different in

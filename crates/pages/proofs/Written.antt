@@ -1,14 +1,15 @@
 -- A page line by line. Idea: after j turns the output begins with the lines of the first j held keys, and a held key adds
 -- its line or none.
-use Rattle.std.proofs.Common.{◌≡◌, ℕ, zero, suc, ◌+◌, ◌<◌, ◌≤◌, get_or, add-mul, one-mul, Bool, true, false, cond, nat_le, List, [], ◌∷◌, ◌++◌, map, length, take, drop, filter, slice_get, slice_set, Some, None, sym, refl, ap, ◌∙◌, arith}
-use Rattle.std.proofs.lemmas.List.{map-append, append-nil, append_assoc, length_push, take_more, take_all, set_at, drop_more}
+use Rattle.std.proofs.Common.{◌≡◌, ℕ, zero, suc, ◌+◌, ◌<◌, ◌≤◌, add-mul, one-mul, Bool, true, false, cond, nat_le, List, [], ◌∷◌, ◌++◌, map, length, take, drop, filter, slice_get, slice_set, Some, None, sym, refl, ap, ◌∙◌, arith}
+use Rattle.std.proofs.lemmas.List.{map-append, append-nil, length_push, take_all}
 use Rattle.std.proofs.lemmas.List.Elements.{filter-append}
-use Rattle.std.proofs.lemmas.Option.{slice_get_within, get_or_from_slice_get}
 use Rattle.std.proofs.lemmas.Bool.{le-leb, lt-leb}
 use Rattle.keys.specs.declared.held.Held.{Held}
 use Rattle.keys.specs.declared.held.Held.TheVariants.{Real, Dummy}
+use Rattle.keys.proofs.Lists.{take_next, past_end, write_next}
 use Rattle.model.specs.Contents.{Counts, Content, total, reals}
 use Rattle.model.specs.Laws.{Balanced}
+use Rattle.model.proofs.ListingWords.{reals-append}
 use Rattle.pages.specs.declared.line.Line.{Line}
 use Rattle.pages.specs.Pages.{line_of}
 
@@ -23,23 +24,8 @@ lines_with {K} l limit reached x m h = map line_of (map (λ (e : K × ℕ). (e.0
     kept : Counts (Held K)
     kept = filter (λ (e : Held K × ℕ). nat_le limit (e.1 + l)) h
 
-reals-append : {K Y : Type 0} (a b : List (Held K × Y)) → reals (a ++ b) ≡ reals a ++ reals b
-reals-append [] b = refl
-reals-append ((Real x, y) ∷ a) b = ap (λ r. (x, y) ∷ r) (reals-append a b)
-reals-append ((Dummy j, y) ∷ a) b = reals-append a b
-
 lines_of-append : {K : Type 0} (l limit : ℕ) (a b : Counts (Held K)) → lines_of l limit (a ++ b) ≡ lines_of l limit a ++ lines_of l limit b
 lines_of-append l limit a b = simp (filter-append, reals-append, map-append)
-
--- the first j held keys and the next
-take_next : {X : Type 0} (h : List X) (j : ℕ) (x : X) → slice_get h j ≡ Some x → take (j + 1) h ≡ take j h ++ x ∷ []
-take_next h j x e =
-    take_more h j x (slice_get_within h j x e) ∙ ap (λ (y : _). take j h ++ y ∷ []) (get_or_from_slice_get h j x x e)
-
-length_past : {X : Type 0} (h : List X) (j : ℕ) → slice_get h j ≡ None → length h ≤ j
-length_past [] j e = omega arith
-length_past (x ∷ h) zero e = absurd (cc)
-length_past (x ∷ h) (suc j) e = omega (arith, length_past h j e)
 
 -- where j of the held keys have been looked at, and the output was once `old`
 record SoFarAs {K : Type 0} (l limit : ℕ) (h : Counts (Held K)) (old output : List (Line K)) (j written : ℕ) : Type 0 where
@@ -61,7 +47,7 @@ module _ {K : Type 0} (l limit : ℕ) (h : Counts (Held K)) (old output : List (
 
   pub at_none : slice_get h j ≡ None → SoFar l limit h old output (j + 1) written
   at_none e =
-      let past : length h ≤ j = length_past h j e in
+      let past : length h ≤ j = past_end h j e in
       no_more (ap (lines_of l limit) (take_all (j + 1) h (omega arith) ∙ sym (take_all j h past)))
 
   -- a held key that adds these lines to those so far
@@ -91,9 +77,8 @@ module _ {K : Type 0} (l limit : ℕ) (h : Counts (Held K)) (old output : List (
       let more = added (Real x) count true e (le-leb limit (count + l) reached) in
       record {
         number = omega (arith, s.number, ap length more, length_push before line);
-        lines = ap (λ ls. slice_set ls written line) (s.lines ∙ ap (λ r. before ++ r) (drop_more old written line room))
-            ∙ set_at before (get_or old written line) (drop (written + 1) old) line written (sym s.number)
-            ∙ sym (append_assoc before (line ∷ []) (drop (written + 1) old)) ∙ ap (λ r. r ++ drop (written + 1) old) (sym more);
+        lines = ap (λ ls. slice_set ls written line) s.lines ∙ write_next before old written line (sym s.number) room
+            ∙ ap (λ r. r ++ drop (written + 1) old) (sym more);
       }
 
   -- where no held key is left

@@ -1,10 +1,11 @@
 //! What a program does with permits: each is handed back, from wherever it was kept, or spent by a release. The must-fail
-//! edits let them go. Rests on keys, summaries and release.
+//! edits let them go. Rests on keys, model, summaries and release.
 #![tactic(auto)]
 
-ghost use Rattle.std.specs.Prelude.{◌≡◌, cond, IfOk, Ok, OnErr};
+ghost use Rattle.std.specs.Prelude.{◌≡◌, cond, length, replicate, pos, IfOk, Ok, OnErr};
 ghost use Rattle.release.specs.Books.{has_left, knows, one_out, one_spent, handed_back, after_hand_back};
-ghost use Rattle.permits_held.specs.Served.{served, served_in_turn, served_in_rounds, served_by_new};
+ghost use Rattle.release.specs.Releases.{output_by};
+ghost use Rattle.permits_held.specs.Served.{served, served_in_turn, served_in_rounds, served_by_new, listed_by, list_answer, list_book};
 
 use keys::refusal::Refusal;
 use release::book::{Book, Refused};
@@ -96,7 +97,7 @@ pub fn to_either(first: &mut Book, second: &mut Book, permit: Permit) -> Result<
     }
 }
 
-/// To a release; to the book where that refuses it.
+/// To a release; to the book where that refuses it. Where no permit is left no release is made, and the draws stay.
 pub fn to_release<S: Summary>(
     summary: &S,
     book: &mut Book,
@@ -105,6 +106,10 @@ pub fn to_release<S: Summary>(
     threshold: u32,
     output: &mut [Entry<S::Key>],
 ) -> Result<usize, Refusal>
+    ensures answer { result ≡ list_answer (listed_by (S.content summary.now) book.old shared draws.old threshold (length output.old)) }
+    ensures book { book.new ≡ list_book book.old result }
+    ensures draws { draws.new ≡ cond (has_left book.old) (replicate (length draws.old) (pos 0)) draws.old }
+    ensures output { output.new ≡ output_by output.old (listed_by (S.content summary.now) book.old shared draws.old threshold (length output.old)) }
     ensures accepted { IfOk result (λ n. book.new ≡ one_spent (one_out book.old)) }
     ensures refused { OnErr result (book.new ≡ book.old) }
 {

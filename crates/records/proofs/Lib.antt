@@ -3,6 +3,7 @@ pub mod Bits
 pub mod Back
 pub mod Forth
 pub mod Torn
+pub mod Followed
 pub mod Rounds
 pub mod Logging
 pub mod Items

@@ -15,6 +15,7 @@ use Rattle.records.proofs.Numbers.{Stored, byte_stored, four_stored}
 use Rattle.records.proofs.Back.{reads_back}
 use Rattle.records.proofs.Forth.{writes_back, ok_same, cond_ok}
 use Rattle.records.proofs.Torn.{cut_off, fault_inside}
+use Rattle.records.proofs.Followed.{fault_laws}
 
 number_short : {width : ℕ} {value_at : List ℕ → ℕ → ℕ} {written : Option ℕ → List ℕ} → Stored width value_at written → (f : Option ℕ) → length (written f) ≤ width
 number_short stored (Some v) = omega (arith, stored.long v)
@@ -84,7 +85,7 @@ was_read bs bytes r n q =
 
 pub read_laws : (bs : List ℕ) → Bytes bs → (a : Result (RecordValue × ℕ) ReadFault) → a ≡ reading bs → ReadLaws bs a
 read_laws bs bytes (Ok p) e = was_read bs bytes p.0 p.1 (sym e)
-read_laws bs bytes (Err x) e = fault_inside bs x (sym e)
+read_laws bs bytes (Err x) e = (fault_inside bs x (sym e), fault_laws bs x (sym e))
 
 pub slice_read_laws : (bs : List ℕ) → ((i : ℕ) → Fits w8 (get_or bs i 0)) → (a : Result (RecordValue × ℕ) ReadFault) → a ≡ reading bs → ReadLaws bs a
 slice_read_laws bs fit a e = read_laws bs (λ i. omega (arith, fit i)) a e

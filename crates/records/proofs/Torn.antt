@@ -48,7 +48,7 @@ module _ (bs : List ℕ) (k : ℕ) (l : k ≤ length bs) where
             rw (ends, t),
       )
 
-  part_cut : (at n : ℕ) → at + n ≤ k → part (take k bs) at n ≡ part bs at n
+  pub part_cut : (at n : ℕ) → at + n ≤ k → part (take k bs) at n ≡ part bs at n
   part_cut at n h =
       let m : at + n - at ≡ n = omega arith in
       let whole : part bs at n ≡ drop at (take (at + n) bs) = rw m at (between_is bs at (at + n)) in
@@ -109,7 +109,7 @@ cut_off (map ∷ rest) r n (suc k) q l h =
     cond-true (leb 1 map && leb map 31) (fields_of map (take (suc k) (map ∷ rest))) (Err (Map 0)) a.0
     ∙ fields_cut map (map ∷ rest) (suc k) (omega arith) (omega arith) (r, n) a.1 h
 
-length-take_most : (n : ℕ) (xs : List ℕ) → length (take n xs) ≤ n
+pub length-take_most : (n : ℕ) (xs : List ℕ) → length (take n xs) ≤ n
 length-take_most n xs = rw length-take (omega arith)
 
 -- where a reader's answer lies: the place after what was read, or that of the fault

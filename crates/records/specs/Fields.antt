@@ -25,6 +25,7 @@ byte_at present lo hi bs at = number_at 1 slice_index nat_le present lo hi bs at
 abbrev pub join : ℕ → ℕ → ℕ → ℕ → ℕ
 join a b c d = a * 16_777_216 + b * 65_536 + c * 256 + d
 
+-- the number that the four bytes from a place on make
 abbrev pub join_at : List ℕ → ℕ → ℕ
 join_at bs at = join (slice_index bs at) (slice_index bs (at + 1)) (slice_index bs (at + 2)) (slice_index bs (at + 3))
 

@@ -32,10 +32,11 @@ unfoldable pub BeginAfter : Log → List Item → Type 0
 BeginAfter log items =
     (i : ℕ) (r : RecordValue) → slice_get log.records i ≡ Some r → slice_get items i ≡ Some (Ok (length (encode_all (take i log.records)), r))
 
--- an item by its values alone
+-- a log's fault by its parts
 abbrev pub fault_of : declared.LogFault → LogFault
 fault_of f = record { fault = f.fault; index = f.index; offset = f.offset }
 
+-- an item by its values alone
 abbrev pub item_of : Result (ℕ × Record) declared.LogFault → Item
 item_of (Ok p) = Ok (p.0, value_of p.1)
 item_of (Err f) = Err (fault_of f)

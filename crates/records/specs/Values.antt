@@ -5,6 +5,7 @@ use Rattle.records.specs.declared.fault.ReadFault.{ReadFault}
 use Rattle.records.specs.declared.record.Record.{Record}
 use Rattle.records.specs.Fields.{Got}
 
+-- each field, if it is present
 pub record RecordValue : Type 0 where
   pub time : Option ℕ
   pub kind : Option ℕ
@@ -12,10 +13,12 @@ pub record RecordValue : Type 0 where
   pub source : Option ℕ
   pub flight : Option (List ℕ)
 
+-- the bytes of a flight word, if there is one
 abbrev pub bytes_of : Option (Bor (List ℕ)) → Option (List ℕ)
 bytes_of (Some w) = Some w.now
 bytes_of None = None
 
+-- a record by its values
 abbrev pub value_of : Record → RecordValue
 value_of r = record { time = r.time; kind = r.kind; console = r.console; source = r.source; flight = bytes_of r.flight }
 

@@ -1,6 +1,6 @@
 //! The records of a log, one after another.
 ghost use Rattle.std.specs.Prelude.{◌≡◌, ◌≤◌, length, All};
-ghost use Rattle.records.specs.Logs.{log_of};
+ghost use Rattle.records.specs.Logs.{log_of, LogLaws};
 
 use crate::fault::ReadFault;
 use crate::reader::read;
@@ -46,6 +46,7 @@ impl<'a> Records<'a> {
         ensures few { length result ≤ length log.now }
         ensures writable { All IsWritable result }
         ensures offsets { BeginAfter (log_of log.now) result }
+        ensures splits { LogLaws log.now }
     {
         Records {
             rest: log,

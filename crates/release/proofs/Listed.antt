@@ -3,13 +3,14 @@
 use Rattle.std.proofs.Common.{◌≡◌, ℕ, zero, suc, ◌+◌, ◌<◌, ◌≤◌, get_or, Bool, true, false, cond, List, [], ◌∷◌, ◌++◌, map, length, take, drop, filter, slice_get, slice_set, Some, None, ℤ, pos, ◌+ℤ◌, sym, refl, ap, ◌∙◌, arith, w32, to_z, of_z, ◌^◌}
 use lib.Signed.{mag}
 use Rattle.std.proofs.lemmas.Int.{to_z-of_z}
-use Rattle.std.proofs.lemmas.List.{map-append, append-nil, append_assoc, length_push, take_more, take_all, set_at, drop_more}
+use Rattle.std.proofs.lemmas.List.{map-append, append-nil, length_push, take_all}
 use Rattle.std.proofs.lemmas.List.Elements.{filter-append}
-use Rattle.std.proofs.lemmas.Option.{slice_get_within, get_or_from_slice_get}
 use Rattle.keys.specs.declared.held.Held.{Held}
 use Rattle.keys.specs.declared.held.Held.TheVariants.{Real, Dummy}
+use Rattle.keys.proofs.Lists.{take_next, write_next}
 use Rattle.model.specs.Contents.{Counts, Content, reals}
 use Rattle.model.specs.Listing.{valued, reaches}
+use Rattle.model.proofs.ListingWords.{reals-append}
 use Rattle.release.specs.declared.entry.Entry.{Entry}
 use Rattle.release.specs.Lists.{entry_of, list_of, after_list}
 
@@ -21,18 +22,8 @@ entries_of {K} t v = map entry_of (reals (filter (λ (e : Held K × ℤ). reache
 abbrev entries_with : {K : Type 0} → Bool → Held K → ℤ → List (Entry K)
 entries_with reached x v = map entry_of (reals (cond reached ((x, v) ∷ []) []))
 
-reals-append : {K Y : Type 0} (a b : List (Held K × Y)) → reals (a ++ b) ≡ reals a ++ reals b
-reals-append [] b = refl
-reals-append ((Real x, y) ∷ a) b = ap (λ r. (x, y) ∷ r) (reals-append a b)
-reals-append ((Dummy j, y) ∷ a) b = reals-append a b
-
 entries_of-append : {K : Type 0} (t : ℕ) (a b : List (Held K × ℤ)) → entries_of t (a ++ b) ≡ entries_of t a ++ entries_of t b
 entries_of-append t a b = simp (filter-append, reals-append, map-append)
-
--- the first j keys and the next
-take_next : {X : Type 0} (v : List X) (j : ℕ) (x : X) → slice_get v j ≡ Some x → take (j + 1) v ≡ take j v ++ x ∷ []
-take_next v j x e =
-    take_more v j x (slice_get_within v j x e) ∙ ap (λ (y : _). take j v ++ y ∷ []) (get_or_from_slice_get v j x x e)
 
 -- no key is left past the held keys
 valued_past : {X : Type 0} (h : Counts X) (s : ℤ) (ds : List ℤ) (j : ℕ) → slice_get h j ≡ None → length (valued h s ds) ≤ j
@@ -121,9 +112,8 @@ module _ {K : Type 0} (C : Content K) (s : ℤ) (ds : List ℤ) (t : ℕ) (old o
       let more = added (Real x) count true e l (ap (reaches (pos t)) (read count fits) ∙ reached) ∙ ap (λ v. before ++ entries_with true (Real x) v) (read count fits) in
       record {
         number = omega (arith, f.number, ap length more, length_push before entry);
-        entries = ap (λ es. slice_set es written entry) (f.entries ∙ ap (λ r. before ++ r) (drop_more old written entry room))
-            ∙ set_at before (get_or old written entry) (drop (written + 1) old) entry written (sym f.number)
-            ∙ sym (append_assoc before (entry ∷ []) (drop (written + 1) old)) ∙ ap (λ r. r ++ drop (written + 1) old) (sym more);
+        entries = ap (λ es. slice_set es written entry) f.entries ∙ write_next before old written entry (sym f.number) room
+            ∙ ap (λ r. r ++ drop (written + 1) old) (sym more);
       }
 
   -- where no draw is left

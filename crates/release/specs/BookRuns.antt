@@ -17,6 +17,7 @@ after_act b Issue = after_issue b
 after_act b (HandBack p) = after_hand_back b p
 after_act b (Release p) = after_release b p
 
+-- the book after these acts, one after another
 abbrev pub after_acts : BookState → List Act → BookState
 after_acts b [] = b
 after_acts b (act ∷ acts) = after_acts (after_act b act) acts

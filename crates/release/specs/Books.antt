@@ -18,7 +18,7 @@ pub record IsBook (b : BookState) : Type 0 where
   pub most : b.limit ≤ 1000
   pub within : b.out + b.spent ≤ b.limit
 
--- a book that has issued no permit, where the limit is 1 to 1,000
+-- a book that has issued no permit, where the limit is 1 to 1,000; else refusal 1
 abbrev pub made_book : (number limit : ℕ) → Result BookState Refusal
 made_book number limit = cond (nat_le 1 limit && nat_le limit 1000) (Ok (record { number = number; limit = limit; out = 0; spent = 0 })) (Err OutOfRange)
 
@@ -40,7 +40,7 @@ one_spent b = record { number = b.number; limit = b.limit; out = b.out - 1; spen
 
 -- what issuing a permit answers
 abbrev pub issued : BookState → Result Permit Refusal
-issued b = cond (has_left b) (Ok (record { book = b.number; spent = false })) (Err UsedUp)
+issued b = cond (has_left b) (Ok (record { book = b.number; used_up = false })) (Err UsedUp)
 
 -- what becomes of the book by issuing one
 abbrev pub after_issue : BookState → BookState

@@ -37,11 +37,14 @@ module _ {K : Type 0} where
   output_by old (Ok entries) = after_list entries old
   output_by old (Err refusal) = old
 
+  -- what a release answers
   abbrev pub released : Content K → BookState → Permit → (shared : ℤ) (draws : List ℤ) (threshold long : ℕ) → Result ℕ Refused
   released C b p shared draws threshold long = answer_by p (list_for C b p shared draws threshold long)
 
+  -- the book after a release
   abbrev pub book_after : Content K → BookState → Permit → (shared : ℤ) (draws : List ℤ) (threshold long : ℕ) → BookState
   book_after C b p shared draws threshold long = book_by b (list_for C b p shared draws threshold long)
 
+  -- the output after a release
   abbrev pub output_after : Content K → BookState → Permit → (shared : ℤ) (draws : List ℤ) (threshold : ℕ) (old : List (Entry K)) → List (Entry K)
   output_after C b p shared draws threshold old = output_by old (list_for C b p shared draws threshold (length old))

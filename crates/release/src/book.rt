@@ -66,6 +66,7 @@ impl Book {
         })
     }
 
+    /// The number that its permits carry.
     pub fn number(&self) -> u32
         ensures { result ≡ self.now.number }
     {
@@ -138,6 +139,7 @@ impl Book {
         self.spent += 1;
     }
 
+    /// Uses a permit up, which is no longer out then.
     fn take_in(&mut self, permit: Permit)
         requires { 0 < self.old.out }
         ensures book { self.new ≡ one_back self.old }

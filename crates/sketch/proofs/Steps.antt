@@ -83,9 +83,9 @@ module _ {K : Type 0} (less : K → K → Bool) (s : SketchView K) (h : IsSketch
   -- what a step leaves is a sketch with the rule's content, if the step fits the words
   took : (l : ℕ) (t : TwoOrders K) → Tied less t → CellsStay s.orders t →
       (a : Taken) → Takes less (content_of s) (Real x) (content_of (one_entry_more s l t)) → ((y : Held K) (m : ℕ) → stored less y t ≡ Some m → l ≤ m) →
-      a ≡ done less (sketch less s.facts.k) (content_of s) x → Took less s x a (one_entry_more s l t)
+      a ≡ done less (sketch less s.facts.k) (content_of s) x → (a ≡ Lowered → t ≡ s.orders) → Took less s x a (one_entry_more s l t)
   unfolding IsSketch Took content_of
-  took l t tied stays a takes least answer =
+  took l t tied stays a takes least answer lowering =
       let same_content : content_of (one_entry_more s l t) ≡ sketch_rule less (content_of s) x =
       rule_is less (order less s h) (content_of s) (content_of (one_entry_more s l t)) x own.stands.holds_k.rising takes in
       let laid : Laid less (one_entry_more s l t) =
@@ -102,6 +102,7 @@ module _ {K : Type 0} (less : K → K → Bool) (s : SketchView K) (h : IsSketch
         content = same_content;
         answer = answer;
         stays = stays;
+        lowering = lowering;
       }
 
   -- other keys are not the same
@@ -151,6 +152,7 @@ module _ {K : Type 0} (less : K → K → Bool) (s : SketchView K) (h : IsSketch
       let p = own.laid.least (Real x) r.count r.was in
       grind arith)
       (let g = w.was_held in grind arith)
+      (λ e. cc)
 
   -- no stored count is l
   lowers : ((y : Held K) (m : ℕ) → stored less y s.orders ≡ Some m → s.facts.l + 1 ≤ m) → stored less (Real x) s.orders ≡ None →
@@ -186,6 +188,7 @@ module _ {K : Type 0} (less : K → K → Bool) (s : SketchView K) (h : IsSketch
       (let n = w.not_held in
       let lt : ltb s.facts.l (s.facts.l + 1) ≡ true = grind (arith, nat_tests) in
       grind arith)
+      (λ e. refl)
 
   at_zero_least : (y old : Held K) → IsLeast less s.orders (record { first = s.facts.l; second = old }) → (o : Option ℕ) → stored less y s.orders ≡ o →
       holds less (content_of s) y ≡ true → count_of less (content_of s) y ≡ 0 → less_held less y old ≡ false
@@ -259,6 +262,7 @@ module _ {K : Type 0} (less : K → K → Bool) (s : SketchView K) (h : IsSketch
       (let n = w.not_held in
       let lt : ltb s.facts.l s.facts.l ≡ false = grind (arith, nat_tests) in
       grind arith)
+      (λ e. cc)
 
 pub ruleset taking = (took_raised)
 

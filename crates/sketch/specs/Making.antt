@@ -9,13 +9,13 @@ use Rattle.sketch.specs.declared.making.NotMade.{NotMade}
 use Rattle.sketch.specs.Orders.{Rank, LentFirst}
 use Rattle.sketch.specs.Sketches.{SketchView, content_of, Laid}
 
--- k is 2 to 1,024, and there are at least k cells for each order
+-- why no sketch is made, if none is: 1 unless k is 2 to 1,024, then 2 if there are fewer than k cells for an order
 abbrev pub make_answer : (k key_cells rank_cells : ℕ) → Option Refusal
 make_answer k a b = cond (nat_le 2 k && nat_le k 1024) (cond (nat_le k a && nat_le k b) None (Some FewCells)) (Some OutOfRange)
 
 -- the refusal, if it is one
-abbrev pub refusal_of : {K : Type 0} → Result (SketchView K) (NotMade K) → Option Refusal
-refusal_of (Ok s) = None
+abbrev pub refusal_of : {K X : Type 0} → Result X (NotMade K) → Option Refusal
+refusal_of (Ok x) = None
 refusal_of (Err e) = Some e.refusal
 
 -- a fresh sketch of k keys, made in these cells

@@ -6,8 +6,8 @@ use Rattle.model.specs.Contents.{Counts, Content}
 use Rattle.model.specs.Sketches.{sketch, sketch_rule}
 use Rattle.summaries.specs.declared.answers.Facts.{Facts}
 use Rattle.summaries.specs.declared.answers.Taken.{Taken}
+use Rattle.summaries.specs.declared.answers.Taken.TheVariants.{Lowered}
 use Rattle.summaries.specs.Calls.{done, Stands}
-use Rattle.sketch.specs.Orders.{TwoOrders, stored, Tied, CellsStay}
 use Rattle.sketch.specs.Orders.{TwoOrders, stored, Tied, CellsStay}
 
 -- the numbers k, n and l, and the two trees
@@ -51,6 +51,8 @@ module _ {K : Type 0} (less : K → K → Bool) where
     pub content : content_of t ≡ sketch_rule less (content_of s) x
     pub answer : a ≡ done less (sketch less s.facts.k) (content_of s) x
     pub stays : CellsStay s.orders t.orders
+    -- a lowering leaves both trees as they were, with all cells
+    pub lowering : a ≡ Lowered → t.orders ≡ s.orders
 
   unfoldable pub Took : SketchView K → K → Taken → SketchView K → Type 0
   Took s x a t = TookAs s x a t

@@ -1,5 +1,5 @@
 //! Making a sketch in cells that the caller lends.
-ghost use Rattle.std.specs.Prelude.{◌≡◌, ◌≤◌, MatchResult, IfErr, IfOk, length};
+ghost use Rattle.std.specs.Prelude.{◌≡◌, ◌≤◌, IfErr, IfOk, length};
 ghost use Rattle.sketch.specs.Making.{make_answer, refusal_of, IsFresh};
 
 use crate::sketch::Sketch;
@@ -57,7 +57,7 @@ impl<'a, K: Kind> Sketch<'a, K> {
         Ok(Sketch::fresh(k as u16, keys, ranks))
     }
 
-    /// A fresh sketch of k keys: dummies 0 to k - 1 at 0, each in the cell of its number.
+    /// A fresh sketch of k keys: dummies 0 to k - 1 at 0. Each is put into the cell of its number, which is not promised.
     fn fresh(
         k: u16,
         keys: &'a mut [Cell<Held<K>, u32>],

@@ -48,7 +48,7 @@ impl<'a, K: Kind> Sketch<'a, K> {
 }
 
 impl<'a, K: Kind> Summary for Sketch<'a, K> {
-    ghost use Rattle.std.specs.Prelude.{◌≡◌, OnErr};
+    ghost use Rattle.std.specs.Prelude.{◌≡◌, IfOk, OnErr};
     ghost use Rattle.std.proofs.Common.{rules};
     ghost use Rattle.model.specs.Sketches.{sketch};
     ghost use Rattle.model.proofs.SketchLaws.{sketch_lawful};
@@ -73,7 +73,7 @@ impl<'a, K: Kind> Summary for Sketch<'a, K> {
 
     ghost counts = { Prim.search rules };
 
-    /// It never refuses with 6. No cell beyond the first k of either order changes.
+    /// It never refuses with 6. No cell beyond the first k of either order changes, and in a lowering no cell at all.
     #[tactic(auto, using(crate::proofs::Steps::sketch_tied), unfolding(crate::specs::Sketches::Took, crate::specs::Sketches::content_of))]
     fn take(&mut self, key: K) -> Result<Taken, Refusal>
         ensures plan { sketch K.Kind.less self.new.facts.k ≡ sketch K.Kind.less self.old.facts.k }
@@ -83,6 +83,7 @@ impl<'a, K: Kind> Summary for Sketch<'a, K> {
             ≡ taken_answer K.Kind.less (sketch K.Kind.less self.old.facts.k) (content_of self.old) key }
         ensures refused { OnErr result (self.new ≡ self.old) }
         ensures stays { CellsStay self.old.orders self.new.orders }
+        ensures lowering { IfOk result (λ taken. taken ≡ Taken.Lowered → self.new.orders ≡ self.old.orders) }
         ensures laid { Laid K.Kind.less self.new }
     {
         if self.facts.n == u32::MAX {

@@ -27,6 +27,7 @@ module _ {K : Type 0} where
   abbrev pub count_answer : (K → K → Bool) → Content K → K → Option ℕ
   count_answer less C x = cond (holds less C (Real x)) (Some (count_of less C (Real x))) None
 
+  -- the numbers of a content
   abbrev pub facts_of : Content K → Facts
   facts_of C = record { k = C.k; n = C.n; l = C.l }
 

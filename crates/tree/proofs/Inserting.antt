@@ -8,7 +8,7 @@ use Rattle.tree.specs.declared.cell.Cell.TheVariants.{Blank, Used}
 use Rattle.tree.specs.declared.cell.Node.{Node}
 use Rattle.tree.specs.Shapes.{leaf, uses, one_at, node_of, shape_at, with_left, with_right, Lies, Opened}
 use Rattle.tree.specs.Operations.{put, Becomes}
-use Rattle.tree.proofs.Cells.{leaf_lies, one_at_itself, one_at_here, one_at_other, one_at_most, stands_used, shape_is, shape_none}
+use Rattle.tree.proofs.Cells.{leaf_lies, one_at_here, one_at_other, one_at_most, stands_used, shape_none}
 use Rattle.tree.proofs.Relinking.{set_node, set_other, relink_left, relink_right}
 
 module _ {K V : Type 0} where

@@ -7,13 +7,10 @@ use Rattle.std.specs.Option.{option_map}
 use Rattle.std.proofs.lemmas.List.{length-map}
 use Rattle.std.proofs.lemmas.List.Sums.{sum_by-append}
 use Rattle.keys.specs.Orders.{TotalOrder, same}
-use Rattle.keys.specs.Sorted.{Rising, insert}
+use Rattle.keys.specs.Sorted.{Rising, insert_sorted}
 use Rattle.keys.proofs.SortedLemmas as sorted
+use Rattle.keys.proofs.Lists.{all_parts}
 use Rattle.tree.specs.Entries.{Kept, Entries, kept_of, revalued, with_new_value, lying_in}
-
-all_append : {X : Type 0} (P : X → Type 0) (xs ys : List X) → AllByRecursion P (xs ++ ys) → AllByRecursion P xs × AllByRecursion P ys
-all_append P [] ys h = (tt, h)
-all_append P (x ∷ xs) ys h = let r = all_append P xs ys h.1 in ((h.0, r.0), r.1)
 
 module _ {K Y : Type 0} (test : K → Bool) where
   pub remove_none : (es : List (K × Y)) → lookup test es ≡ None → remove_entry test es ≡ es
@@ -41,10 +38,10 @@ module _ {K Y : Type 0} (less : K → K → Bool) where
   rising_split [] ys e h = (tt, tt, h.0, h.1)
   rising_split (x ∷ xs) ys e h =
       let r = rising_split xs ys e h.1 in
-      let a = all_append (λ (f : K × Y). less x.0 f.0 ≡ true) xs (e ∷ ys) h.0 in
+      let a = all_parts (λ (f : K × Y). less x.0 f.0 ≡ true) xs (e ∷ ys) h.0 in
       ((a.0, r.0), (a.1.0, r.1), r.2, r.3)
 
-  pub length_insert : (n : K × Y) (es : List (K × Y)) → length (insert less n es) ≡ length es + 1
+  pub length_insert : (n : K × Y) (es : List (K × Y)) → length (insert_sorted less n es) ≡ length es + 1
   length_insert n [] = omega arith
   length_insert n (e ∷ es) = let r = length_insert n es in grind arith
 
@@ -67,11 +64,11 @@ module _ {K Y : Type 0} (less : K → K → Bool) (order : TotalOrder less) wher
   lookup_at q [] ys e below h = grind arith
   lookup_at q (x ∷ xs) ys e below h = let r = lookup_at q xs ys e below.1 h in grind arith
 
-  pub insert_before : (n : K × Y) (xs ys : List (K × Y)) (e : K × Y) → less n.0 e.0 ≡ true → insert less n (xs ++ e ∷ ys) ≡ insert less n xs ++ e ∷ ys
+  pub insert_before : (n : K × Y) (xs ys : List (K × Y)) (e : K × Y) → less n.0 e.0 ≡ true → insert_sorted less n (xs ++ e ∷ ys) ≡ insert_sorted less n xs ++ e ∷ ys
   insert_before n [] ys e h = grind arith
   insert_before n (x ∷ xs) ys e h = let r = insert_before n xs ys e h in grind arith
 
-  pub insert_after : (n : K × Y) (xs ys : List (K × Y)) (e : K × Y) → Below less e.0 xs → less e.0 n.0 ≡ true → insert less n (xs ++ e ∷ ys) ≡ xs ++ e ∷ insert less n ys
+  pub insert_after : (n : K × Y) (xs ys : List (K × Y)) (e : K × Y) → Below less e.0 xs → less e.0 n.0 ≡ true → insert_sorted less n (xs ++ e ∷ ys) ≡ xs ++ e ∷ insert_sorted less n ys
   insert_after n [] ys e below h = grind arith
   insert_after n (x ∷ xs) ys e below h = let r = insert_after n xs ys e below.1 h in grind arith
 
@@ -91,7 +88,7 @@ module _ {K Y : Type 0} (less : K → K → Bool) (order : TotalOrder less) wher
   none_is q [] none = tt
   none_is q (e ∷ es) none = let r = none_is q es in (λ same. grind arith, r (grind arith))
 
-  pub rising_insert : (n : K × Y) (es : List (K × Y)) → Rising less es → lookup (same less n.0) es ≡ None → Rising less (insert less n es)
+  pub rising_insert : (n : K × Y) (es : List (K × Y)) → Rising less es → lookup (same less n.0) es ≡ None → Rising less (insert_sorted less n es)
   rising_insert n es rising none = sorted.rising_insert less order n es rising (none_is n.0 es none)
 
   pub rising_remove : (q : K) (es : List (K × Y)) → Rising less es → Rising less (remove_entry (same less q) es)
@@ -101,7 +98,7 @@ module _ {K Y : Type 0} (less : K → K → Bool) (order : TotalOrder less) wher
       search (rules, all_remove (same less q) (λ k. less e.0 k ≡ true) es h.0)
 
   -- what a look-up of p answers afterwards
-  pub lookup_insert : (n : K × Y) (p : K) (es : List (K × Y)) → lookup (same less n.0) es ≡ None → lookup (same less p) (insert less n es) ≡ cond (same less p n.0) (Some n.1) (lookup (same less p) es)
+  pub lookup_insert : (n : K × Y) (p : K) (es : List (K × Y)) → lookup (same less n.0) es ≡ None → lookup (same less p) (insert_sorted less n es) ≡ cond (same less p n.0) (Some n.1) (lookup (same less p) es)
   lookup_insert n p [] none = refl
   lookup_insert n p (e ∷ es) none = let r = lookup_insert n p es in grind arith
 

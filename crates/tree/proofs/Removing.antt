@@ -7,7 +7,7 @@ use Rattle.tree.specs.declared.cell.Cell.TheVariants.{Used}
 use Rattle.tree.specs.declared.cell.Node.{Node}
 use Rattle.tree.specs.Shapes.{Shape, leaf, node, uses, shape_at, with_left, with_right, with_links, LiesAs, Lies, Opened}
 use Rattle.tree.specs.Operations.{first, rest, rooted, join, unrooted, cut, BecomesAs, Becomes}
-use Rattle.tree.proofs.Cells.{one_at_itself, one_at_here, one_at_other, stands_used, stands_within, shape_is, shape_none}
+use Rattle.tree.proofs.Cells.{one_at_itself, one_at_here, stands_within, shape_none}
 use Rattle.tree.proofs.Relinking.{apart, set_node, set_other, lies_kept, relink_left, relink_right}
 
 module _ {K V : Type 0} where

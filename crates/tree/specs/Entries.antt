@@ -4,7 +4,7 @@ use Rattle.std.specs.List.{count_by}
 use Rattle.std.specs.Map.{lookup, remove_entry}
 use Rattle.std.specs.Option.{option_map}
 use Rattle.keys.specs.Orders.{same}
-use Rattle.keys.specs.Sorted.{insert}
+use Rattle.keys.specs.Sorted.{insert_sorted}
 
 -- what is kept of a key: its value, and the cell that it lies in
 pub record Kept (V : Type 0) : Type 0 where
@@ -34,7 +34,7 @@ module _ {K V : Type 0} (less : K → K → Bool) where
 
   -- q comes in at its place, with the value w, in the cell `at`
   abbrev pub with_key : K → V → ℕ → Entries K V → Entries K V
-  with_key q w at es = insert less (q, record { value = w; cell = at }) es
+  with_key q w at es = insert_sorted less (q, record { value = w; cell = at }) es
 
   -- what is kept of p, where w becomes the value of q
   unfoldable pub revalued : K → V → K → Kept V → Kept V

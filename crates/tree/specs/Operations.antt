@@ -1,4 +1,5 @@
--- What the operations find in the shape of a tree and make of it, and what they do to the cells.
+-- What the operations find in the shape of a tree and make of it, and what they do to the cells. No contract of a public
+-- call names these.
 use Rattle.std.specs.Prelude.{◌≡◌, ◌==◌, ℕ, ◌+◌, ◌-◌, ◌≢◌, nat_lt, Bool, cond, List, Option, Some, None, IfNone, length, slice_get}
 use Rattle.std.specs.Option.{option_map}
 use Rattle.tree.specs.declared.cell.Cell.{Cell}

@@ -10,7 +10,7 @@ pub data Shape (K V : Type 0) : Type 0 where
   leaf : Shape K V
   node : Shape K V → ℕ → K → V → Shape K V → Shape K V
 
--- the cell counted once, if there is one
+-- how often the cell j is this one: once or not at all
 abbrev pub one_at : Option ℕ → ℕ → ℕ
 one_at None j = 0
 one_at (Some i) j = cond (i == j) 1 0

@@ -1,4 +1,4 @@
--- Where a walk to the j-th node of a tree ends.
+-- Where a walk to the j-th node of a tree ends. No contract of a public call names this.
 use Rattle.std.specs.Prelude.{◌≡◌, ℕ, ◌+◌, ◌<◌, Some}
 use Rattle.tree.specs.declared.walking.Walk.{Walk}
 use Rattle.tree.specs.declared.walking.Walk.TheVariants.{At, Past}

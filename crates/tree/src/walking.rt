@@ -1,7 +1,5 @@
 //! A walk through the nodes in key order, to the j-th of them.
-ghost use Rattle.std.specs.Prelude.{◌≡◌, ◌+◌};
-ghost use Rattle.tree.specs.Operations.{place};
-ghost use Rattle.tree.specs.Shapes.{Lies, shape_at, size};
+ghost use Rattle.tree.specs.Shapes.{Lies, shape_at};
 ghost use Rattle.tree.specs.Walks.{IsPlace};
 
 use crate::cell::{Cell, Node, node_at};

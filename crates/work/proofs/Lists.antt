@@ -1,13 +1,11 @@
 -- Lists read at a place, and written there.
 use Rattle.std.proofs.Common.{◌≡◌, ℕ, zero, suc, ◌+◌, ◌<◌, get_or, List, [], ◌∷◌, ◌++◌, map, length, take, drop, slice_get, slice_set, Some, refl, sym, ap, ◌∙◌, arith}
 use Rattle.std.specs.List.{sum_by}
-use Rattle.std.proofs.lemmas.List.{take_more, drop-drop, drop-set-lt, take-set-le}
+use Rattle.std.proofs.lemmas.List.{drop-drop, drop-set-lt, take-set-le}
 use Rattle.std.proofs.lemmas.List.Sums.{sum_by-set}
+use Rattle.std.proofs.Math.Seq.{map-set_same}
 use Rattle.std.proofs.lemmas.Option.{slice_get_within, slice_get_read, get_or_from_slice_get}
-
--- one item more
-pub take_next : {X : Type 0} (xs : List X) (i : ℕ) (x : X) → slice_get xs i ≡ Some x → take (i + 1) xs ≡ take i xs ++ x ∷ []
-take_next xs i x e = take_more xs i x (slice_get_within xs i x e) ∙ ap (λ y. take i xs ++ y ∷ []) (get_or_from_slice_get xs i x x e)
+use Rattle.keys.proofs.Lists.{take_next}
 
 pub get_set : {X : Type 0} (xs : List X) (i : ℕ) (x : X) → i < length xs → slice_get (slice_set xs i x) i ≡ Some x
 get_set [] i x h = absurd (omega arith)
@@ -42,9 +40,7 @@ read_taken xs n i x h k e = get_taken xs n i h ∙ slice_get_read xs (length xs)
 
 -- an item is written that shows the same as the one that was there
 pub map_set : {X Y : Type 0} (f : X → Y) (xs : List X) (i : ℕ) (x y : X) → slice_get xs i ≡ Some x → f y ≡ f x → map f (slice_set xs i y) ≡ map f xs
-map_set f [] i x y e q = refl
-map_set f (z ∷ xs) zero x y e q = let w : z ≡ x = cc in ap (λ t. t ∷ map f xs) (q ∙ ap f (sym w))
-map_set f (z ∷ xs) (suc i) x y e q = ap (λ t. f z ∷ t) (map_set f xs i x y e q)
+map_set f xs i x y e q = map-set_same f xs i y x (q ∙ ap f (sym (get_or_from_slice_get xs i x x e)))
 
 pub sum_set : {X : Type 0} (f : X → ℕ) (xs : List X) (i : ℕ) (x y : X) → slice_get xs i ≡ Some x → sum_by f (slice_set xs i y) + f x ≡ sum_by f xs + f y
 sum_set f xs i x y e =

@@ -17,7 +17,7 @@ use Rattle.work.specs.declared.call.Releasing.{Releasing}
 use Rattle.work.specs.Memories.{Memory}
 use Rattle.work.specs.Releases.{outcome, list_with, list_by, with_book, issued_at, changed_at, release_answer, release_books}
 use Rattle.work.specs.Calls.{books_with, answer_of}
-use Rattle.work.specs.Permits.{accepted, is_list, OneEach}
+use Rattle.work.specs.Permits.{accepted, gave_list, OneEach}
 use Rattle.work.proofs.Lists.{map_set, sum_set}
 
 pub none_moved : (bs : List BookState) → OneEach bs bs 0
@@ -59,17 +59,17 @@ module _ {K : Type 0} (C : Content K) (bs : List BookState) (r : Releasing) (dra
   given list (Some a) None e f q = absurd (cc)
   given list (Some a) (Some b) e f q = by (has_left a) refl q
     where
-      by : (t : Bool) → has_left a ≡ t → Some (list_by C (cond t (Ok (record { book = a.number; spent = false })) (Err UsedUp)) b r draws long) ≡ Some (Ok list) →
+      by : (t : Bool) → has_left a ≡ t → Some (list_by C (cond t (Ok (record { book = a.number; used_up = false })) (Err UsedUp)) b r draws long) ≡ Some (Ok list) →
           OneEach bs (changed_at one_spent (issued_at bs r.issuer) r.book) 1
       by false h q = absurd (cc)
       by true h q =
-          let k : list_for C b (record { book = a.number; spent = false }) r.shared draws r.threshold long ≡ Ok list = cc in
+          let k : list_for C b (record { book = a.number; used_up = false }) r.shared draws r.threshold long ≡ Ok list = cc in
           let at : issued_at bs r.issuer ≡ slice_set bs r.issuer (one_out a) =
           ap (with_book after_issue bs r.issuer) e ∙ ap (λ t. slice_set bs r.issuer (cond t (one_out a) a)) h in
           let there : slice_get (slice_set bs r.issuer (one_out a)) r.book ≡ Some b = ap (λ ys. slice_get ys r.book) (sym at) ∙ f in
           let is : changed_at one_spent (issued_at bs r.issuer) r.book ≡ slice_set (slice_set bs r.issuer (one_out a)) r.book (one_spent b) =
           ap (λ ys. with_book one_spent ys r.book (slice_get ys r.book)) at ∙ ap (with_book one_spent (slice_set bs r.issuer (one_out a)) r.book) there in
-          subst (λ ys. OneEach bs ys 1) (sym is) (moved bs r.issuer r.book a b e there (some_out b (record { book = a.number; spent = false }) list k))
+          subst (λ ys. OneEach bs ys 1) (sym is) (moved bs r.issuer r.book a b e there (some_out b (record { book = a.number; used_up = false }) list k))
 
   released : (o : Option (Result (List (Entry K)) Refusal)) → outcome C bs r draws long ≡ o → OneEach bs (release_books bs r o) (cond (accepted (release_answer o)) 1 0)
   released None e = none_moved bs
@@ -78,7 +78,7 @@ module _ {K : Type 0} (C : Content K) (bs : List BookState) (r : Releasing) (dra
 
 -- of each call
 pub by_call : {K L : Type 0} (gives : L → RecordValue → Option K) (plan : Plan K) (less : K → K → Bool) (C : Content K) (bs : List BookState) (c : Call K L) (part : Memory K) →
-    OneEach bs (books_with C bs c part) (cond (is_list (answer_of gives plan less C bs c part)) 1 0)
+    OneEach bs (books_with C bs c part) (cond (gave_list (answer_of gives plan less C bs c part)) 1 0)
 by_call gives plan less C bs (call.Take x) part = none_moved bs
 by_call gives plan less C bs (call.Feed f) part = none_moved bs
 by_call gives plan less C bs (call.Count x) part = none_moved bs

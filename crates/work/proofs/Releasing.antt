@@ -1,6 +1,6 @@
 -- What a release in a run comes to. Idea: a book that was asked for a permit, and got it back, is as it was.
-use Rattle.std.proofs.Common.{◌≡◌, ℕ, zero, suc, ◌+◌, ◌<◌, Bool, true, false, cond, ◌&&◌, nat_lt, List, [], ◌∷◌, length, slice_get, slice_set, slice_index_or, Option, Some, Result, Ok, Err, ℤ, refl, sym, ap, ◌∙◌, subst, arith}
-use Rattle.std.proofs.lemmas.List.{set-get_or, length-set, get_or-set_same}
+use Rattle.std.proofs.Common.{◌≡◌, ℕ, ◌+◌, ◌<◌, Bool, true, false, cond, ◌&&◌, nat_lt, List, length, slice_get, slice_set, slice_index_or, Option, Some, Result, Ok, Err, ℤ, refl, sym, ap, ◌∙◌, subst, arith}
+use Rattle.std.proofs.lemmas.List.{set-get_or, set-set, length-set, get_or-set_same}
 use Rattle.std.proofs.lemmas.Bool.{eq-eqb, lt-ltb}
 use Rattle.std.proofs.lemmas.Option.{slice_get-get_or}
 use Rattle.keys.specs.declared.refusal.Refusal.{Refusal}
@@ -14,17 +14,12 @@ use Rattle.release.specs.Releases.{list_for, answer_by, book_by, output_by}
 use Rattle.work.specs.declared.call.Releasing.{Releasing}
 use Rattle.work.specs.Releases.{outcome, list_with, list_by, with_book, issued_at, release_answer, release_books, release_list}
 
-set_twice : {X : Type 0} (xs : List X) (i : ℕ) (x y : X) → slice_set (slice_set xs i x) i y ≡ slice_set xs i y
-set_twice [] i x y = refl
-set_twice (z ∷ xs) zero x y = refl
-set_twice (z ∷ xs) (suc i) x y = ap (λ ys. z ∷ ys) (set_twice xs i x y)
-
 -- a book that issues nothing is as it was
 not_issued : (a : BookState) (e : Refusal) → issued a ≡ Err e → after_issue a ≡ a
 not_issued a e = by (has_left a)
   where
     own : Permit
-    own = record { book = a.number; spent = false }
+    own = record { book = a.number; used_up = false }
 
     by : (t : Bool) → cond t (Ok own) (Err UsedUp) ≡ Err e → cond t (one_out a) a ≡ a
     by true q = absurd (cc)
@@ -39,7 +34,7 @@ back : (a : BookState) (p : Permit) → issued a ≡ Ok p → Back a (after_issu
 back a p = by (has_left a)
   where
     own : Permit
-    own = record { book = a.number; spent = false }
+    own = record { book = a.number; used_up = false }
 
     is_known : knows (one_out a) own ≡ true
     is_known = ap (λ t. t && nat_lt 0 (a.out + 1)) (eq-eqb a.number a.number refl) ∙ lt-ltb 0 (a.out + 1) (omega arith)
@@ -158,7 +153,7 @@ module _ {K : Type 0} (C : Content K) (bs : List BookState) (r : Releasing) (dra
           (sym (came_to ∙ ap Some came_back.refused))
           (record {
             answered = refl;
-            books_are = ap (λ ys. slice_set ys r.issuer h) books_now ∙ set_twice bs r.issuer c h
+            books_are = ap (λ ys. slice_set ys r.issuer h) books_now ∙ set-set bs r.issuer c h
                 ∙ ap (slice_set bs r.issuer) (h_is ∙ handed.book) ∙ set-get_or bs r.issuer x;
             output_is = came_back.output_is;
           })

@@ -3,10 +3,10 @@
 use Rattle.std.proofs.Common.{◌≡◌, ℕ, zero, suc, ◌+◌, ◌<◌, ◌≤◌, min, List, [], ◌∷◌, ◌++◌, length, take, drop, slice_get, Some, refl, sym, ap, ◌∙◌, subst, inl, inr, arith}
 use Rattle.std.proofs.lemmas.List.{drop-drop}
 use Rattle.std.proofs.lemmas.List.Sums.{sum_by-cons, sum_by_push}
+use Rattle.keys.proofs.Lists.{take_next}
 use Rattle.work.specs.declared.call.Call.{Call}
 use Rattle.work.specs.Memories.{begins, part_at}
 use Rattle.work.specs.Steps.{cut, Rewritten}
-use Rattle.work.proofs.Lists.{take_next}
 use Rattle.work.proofs.Parts.{cases, part_is, same_length, part_now, before, beyond, inside}
 
 module _ {K L : Type 0} (own : Call K L → ℕ) where

@@ -1,10 +1,9 @@
 -- A log, and that log without one record, fed to alike fresh summaries leave one content, or neighbours that hand over. Idea: a log fed to
 -- its end finds room for all its admitted keys, so without one record it adds the same keys, or all of them but one.
-use Rattle.std.proofs.Common.{◌≡◌, ℕ, zero, suc, ◌≤◌, Bool, true, false, cond, ◌⊎◌, inl, inr, List, [], ◌∷◌, ◌++◌, length, slice_get, Some, None, IsOk, Option, refl, sym, ap, ◌∙◌, subst, append_assoc, true≢false, arith}
+use Rattle.std.proofs.Common.{◌≡◌, ℕ, zero, suc, ◌≤◌, Bool, true, false, cond, ◌⊎◌, inl, inr, List, [], ◌∷◌, ◌++◌, length, Some, None, IsOk, Option, refl, sym, ap, ◌∙◌, subst, append_assoc, true≢false, arith}
 use Rattle.std.specs.List.{filter, cons_option}
 use Rattle.keys.specs.Orders.{TotalOrder}
 use Rattle.std.proofs.lemmas.List.{append-nil, take_all}
-use Rattle.std.proofs.lemmas.List.Sums.{length-filter}
 use Rattle.std.proofs.lemmas.List.Elements.{filter-append, filter_map-append, filter_passes, recursion_from_All}
 use Rattle.std.proofs.lemmas.Bool.{and_parts, and_from}
 use Rattle.records.specs.Values.{RecordValue}
@@ -16,8 +15,8 @@ use Rattle.model.specs.Contents.{Content}
 use Rattle.model.specs.Plans.{Plan, after, Entries}
 use Rattle.model.proofs.Handing.{runs_hand_over}
 use Rattle.model.specs.Laws.{Lawful}
-use Rattle.feeding.specs.Feeding.{places_from, keys_of, room, is_entry, full_at, answer_by}
-use Rattle.feeding.proofs.Beginnings.{places_length, entries_count}
+use Rattle.feeding.specs.Feeding.{keys_of, room, full_at, answer_by}
+use Rattle.feeding.proofs.Room.{all_fit}
 use Rattle.work.specs.Runs.{Near}
 use Rattle.work.specs.ShorterLogs.{fed_fresh, FedToEnd, NeighboursByLogs}
 
@@ -66,11 +65,6 @@ shorter_records log shorter bytes rs r others parts is =
     ((log_laws shorter fewer).only (record { records = rs ++ others; fault = None })
     (record { records = all_but_one rs r others whole; rest = []; joined = is ∙ sym (append-nil (encode_all (rs ++ others))); end = refl })))
 
-past_end : {X : Type 0} (xs : List X) (i : ℕ) → slice_get xs i ≡ None → length xs ≤ i
-past_end [] i e = omega arith
-past_end (x ∷ xs) zero e = cc
-past_end (x ∷ xs) (suc i) e = omega (arith, past_end xs i e)
-
 module _ {K : Type 0} (plan : Plan K) (gives : RecordValue → Option K) where
   -- the admitted keys of some records
   abbrev entries : List RecordValue → List K
@@ -84,9 +78,7 @@ module _ {K : Type 0} (plan : Plan K) (gives : RecordValue → Option K) where
   fits : (log : List ℕ) → FedToEnd plan gives log → length (entries (log_of log).records) ≤ room plan.fresh
   fits log ok =
       let rs : List RecordValue = (log_of log).records in
-      let short = past_end (places_from (λ r. is_entry plan (gives r)) 0 rs) (room plan.fresh)
-      (not_full (log_of log).fault rs (full_at plan plan.fresh gives rs) ok) in
-      omega (arith, short, length-filter plan.admits (keys_of gives rs), places_length (λ r. is_entry plan (gives r)) 0 rs, entries_count plan gives rs)
+      all_fit plan gives plan.fresh rs (not_full (log_of log).fault rs (full_at plan plan.fresh gives rs) ok)
 
   -- so it adds them all
   adds_all : (log : List ℕ) (rs : List RecordValue) → (log_of log).records ≡ rs → FedToEnd plan gives log → fed_fresh plan gives log ≡ after plan (entries rs)
@@ -122,9 +114,9 @@ module _ {K : Type 0} (plan : Plan K) (gives : RecordValue → Option K) where
         })
         by false e = inl refl
 
-    less_one : (rs : List RecordValue) (r : RecordValue) (others : List RecordValue) → Entries plan (entries (rs ++ r ∷ others)) →
+    one_record_less : (rs : List RecordValue) (r : RecordValue) (others : List RecordValue) → Entries plan (entries (rs ++ r ∷ others)) →
         SameOrNear (entries (rs ++ r ∷ others)) (entries (rs ++ others))
-    less_one rs r others e =
+    one_record_less rs r others e =
         let longer : entries (rs ++ r ∷ others) ≡ entries rs ++ entries (r ∷ others) = entries_append rs (r ∷ others) in
         subst (SameOrNear (entries (rs ++ r ∷ others))) (sym (entries_append rs others))
         (subst (λ es. SameOrNear es (entries rs ++ entries others)) (sym longer)
@@ -142,4 +134,4 @@ neighbours_by_logs {K} less order plan lawful gives log shorter h to_end shorter
     adds_all plan gives shorter (rs ++ others) (shorter_records log shorter h.bytes rs r others parts is) shorter_to_end in
     subst (λ (C : Content K). (C ≡ fed_fresh plan gives shorter) ⊎ Near less C (fed_fresh plan gives shorter)) (sym long)
     (subst (λ (D : Content K). (after plan (entries plan gives (rs ++ r ∷ others)) ≡ D) ⊎ Near less (after plan (entries plan gives (rs ++ r ∷ others))) D) (sym short)
-    (less_one plan gives less order lawful rs r others (entries_fit plan gives log (rs ++ r ∷ others) parts to_end)))
+    (one_record_less plan gives less order lawful rs r others (entries_fit plan gives log (rs ++ r ∷ others) parts to_end)))

@@ -6,6 +6,7 @@ use Rattle.std.proofs.lemmas.List.{length-take, take_all, drop-drop}
 use Rattle.std.proofs.lemmas.List.Sums.{sum_by-cons, sum_by_push}
 use Rattle.std.proofs.lemmas.Option.{slice_get_within}
 use Rattle.keys.specs.Orders.{TotalOrder}
+use Rattle.keys.proofs.Lists.{take_next}
 use Rattle.records.specs.Values.{RecordValue}
 use Rattle.model.specs.Contents.{Content}
 use Rattle.model.specs.Plans.{Plan}
@@ -19,9 +20,9 @@ use Rattle.work.specs.declared.call.Answer.{Answer}
 use Rattle.work.specs.Memories.{Memory, memory, own_lines, own_draws, own_lists, begins, part_at, part_of}
 use Rattle.work.specs.Calls.{content_with, books_with, answer_of, lines_of, draws_of, lists_of}
 use Rattle.work.specs.Steps.{Ends, Within, cut, cut_memory, Stepped}
-use Rattle.work.specs.Permits.{all_out, is_list, OneEach}
+use Rattle.work.specs.Permits.{all_out, gave_list, OneEach}
 use Rattle.work.specs.Runs.{rest_of, entries_after, content_after, books_after, Point, Run}
-use Rattle.work.proofs.Lists.{take_next, get_set, get_others, get_taken, take_set, drop_set, read_taken}
+use Rattle.work.proofs.Lists.{get_set, get_others, get_taken, take_set, drop_set, read_taken}
 use Rattle.work.proofs.Sharing as sharing
 use Rattle.work.proofs.Sharing.{SharedAs}
 use Rattle.work.proofs.Permits.{none_moved, one_each_on, by_call}
@@ -82,7 +83,7 @@ module _ {K L : Type 0} (gives : L → RecordValue → Option K) (plan : Plan K)
       lines : SharedAs own_lines calls makes_lines old.lines i m.lines from.lines
       draws : SharedAs own_draws calls makes_draws old.draws i m.draws from.draws
       lists : SharedAs own_lists calls makes_lists old.lists i m.lists from.lists
-      permits : OneEach books bs (count_by is_list (take i answers))
+      permits : OneEach books bs (count_by gave_list (take i answers))
 
     -- the same, closed, so that a proof goes on with it as a whole
     pub SoFar : (i : ℕ) (C : Content K) (bs : List BookState) (answers : List (Answer K)) (m : Memory K) (from : Places) → Type 0
@@ -149,8 +150,8 @@ module _ {K L : Type 0} (gives : L → RecordValue → Option K) (plan : Plan K)
           ∙ ap (λ x. Some (answer_of gives plan less (content_after gives plan first (take x calls)) (books_after gives plan first books old (take x calls)) c (part_of (take x calls) c old))) (sym q)
     ]
 
-    recorded : count_by is_list (take i answers) + cond (is_list a) 1 0 ≡ count_by is_list (take (i + 1) (slice_set answers i a))
-    recorded = sym (ap (count_by is_list) (take_set answers i a room) ∙ sum_by_push (λ x. cond (is_list x) 1 0) (take i answers) a)
+    recorded : count_by gave_list (take i answers) + cond (gave_list a) 1 0 ≡ count_by gave_list (take (i + 1) (slice_set answers i a))
+    recorded = sym (ap (count_by gave_list) (take_set answers i a room) ∙ sum_by_push (λ x. cond (gave_list x) 1 0) (take i answers) a)
 
     further : SoFar less first books calls kept old (i + 1) D ds (slice_set answers i a) n to
     unfolding SoFar Stepped
@@ -168,9 +169,9 @@ module _ {K L : Type 0} (gives : L → RecordValue → Option K) (plan : Plan K)
           ∙ ap (λ X. lists_of C_i X call (cut from.draws to.draws m.draws) (cut from.lists to.lists m.lists)) s.books_are
           ∙ ap (λ X. lists_of C_i B_i call X (cut from.lists to.lists m.lists)) old_draws);
       permits = subst (OneEach books ds) recorded
-          (one_each_on books bs ds (count_by is_list (take i answers)) (cond (is_list a) 1 0) s.permits
-          (subst (λ X. OneEach bs X (cond (is_list a) 1 0)) (sym t.books)
-          (subst (λ X. OneEach bs (books_with C bs call (cut_memory from to m)) (cond (is_list X) 1 0)) (sym t.answered) (by_call gives plan less C bs call (cut_memory from to m)))));
+          (one_each_on books bs ds (count_by gave_list (take i answers)) (cond (gave_list a) 1 0) s.permits
+          (subst (λ X. OneEach bs X (cond (gave_list a) 1 0)) (sym t.books)
+          (subst (λ X. OneEach bs (books_with C bs call (cut_memory from to m)) (cond (gave_list X) 1 0)) (sym t.answered) (by_call gives plan less C bs call (cut_memory from to m)))));
     }
 
   -- the parts of the next call begin within the memory
@@ -227,7 +228,7 @@ module _ {K L : Type 0} (gives : L → RecordValue → Option K) (less : K → K
         (subst (λ cs. drop (begins own_lines cs) m.lines ≡ drop (begins own_lines cs) old.lines) all s.lines.rest)
         (subst (λ cs. drop (begins own_draws cs) m.draws ≡ drop (begins own_draws cs) old.draws) all s.draws.rest)
         (subst (λ cs. drop (begins own_lists cs) m.lists ≡ drop (begins own_lists cs) old.lists) all s.lists.rest);
-    permits = let e : i ≡ n = omega arith in subst (λ t. OneEach books bs (count_by is_list (take t answers))) e s.permits;
+    permits = let e : i ≡ n = omega arith in subst (λ t. OneEach books bs (count_by gave_list (take t answers))) e s.permits;
   }
     where
       last_content : C ≡ content_after gives plan first (take n calls)

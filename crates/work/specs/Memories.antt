@@ -13,6 +13,7 @@ pub record Memory (K : Type 0) : Type 0 where
   pub draws : List ℤ
   pub lists : List (Entry K)
 
+-- memory by its three parts
 abbrev pub memory : {K : Type 0} → List (Line K) → List ℤ → List (Entry K) → Memory K
 memory lines draws lists = record { lines = lines; draws = draws; lists = lists }
 

@@ -21,14 +21,14 @@ accepted (Some (Ok entries)) = true
 accepted (Some (Err refusal)) = false
 
 -- whether an answer is that of a list released
-abbrev pub is_list : {K : Type 0} → Answer K → Bool
-is_list (answer.Take a) = false
-is_list (answer.Feed a) = false
-is_list (answer.Count a) = false
-is_list (answer.Place a) = false
-is_list (answer.Facts a) = false
-is_list (answer.Page a) = false
-is_list (answer.Release a) = accepted a
+abbrev pub gave_list : {K : Type 0} → Answer K → Bool
+gave_list (answer.Take a) = false
+gave_list (answer.Feed a) = false
+gave_list (answer.Count a) = false
+gave_list (answer.Place a) = false
+gave_list (answer.Facts a) = false
+gave_list (answer.Page a) = false
+gave_list (answer.Release a) = accepted a
 
 -- Books before a run and after it, in which so many lists were released: each has its number and its limit; as many
 -- permits are out as before; and as many more are spent as lists were released. Of which book each is, the books after

@@ -9,11 +9,12 @@ use Rattle.release.specs.Lists.{after_list}
 use Rattle.release.specs.Releases.{list_for}
 use Rattle.work.specs.declared.call.Releasing.{Releasing}
 
--- the books, of which the one at this place, if there is one, is changed
+-- the books with the book b, which is the one at this place, changed; as they were if there is none
 abbrev pub with_book : (BookState → BookState) → List BookState → ℕ → Option BookState → List BookState
 with_book change bs i None = bs
 with_book change bs i (Some b) = slice_set bs i (change b)
 
+-- the books, of which the one at this place, if there is one, is changed
 abbrev pub changed_at : (BookState → BookState) → List BookState → ℕ → List BookState
 changed_at change bs i = with_book change bs i (slice_get bs i)
 
@@ -22,12 +23,12 @@ abbrev pub issued_at : List BookState → ℕ → List BookState
 issued_at bs i = changed_at after_issue bs i
 
 module _ {K : Type 0} where
-  -- by a permit, if it was issued
+  -- what a release by the permit that was issued comes to; the refusal if none was
   abbrev pub list_by : Content K → Result Permit Refusal → BookState → Releasing → (draws : List ℤ) (long : ℕ) → Result (List (Entry K)) Refusal
   list_by C (Ok p) b r draws long = list_for C b p r.shared draws r.threshold long
   list_by C (Err refusal) b r draws long = Err refusal
 
-  -- with the two books, if they are there
+  -- the same of the two books; nothing if one of them is not there
   abbrev pub list_with : Content K → (issuer book : Option BookState) → Releasing → (draws : List ℤ) (long : ℕ) → Option (Result (List (Entry K)) Refusal)
   list_with C None book r draws long = None
   list_with C (Some issuer) None r draws long = None

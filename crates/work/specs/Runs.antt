@@ -12,7 +12,7 @@ use Rattle.work.specs.declared.call.Call.{Call}
 use Rattle.work.specs.declared.call.Answer.{Answer}
 use Rattle.work.specs.Memories.{Memory, part_of, beyond}
 use Rattle.work.specs.Calls.{entries_with, content_with, books_with, answer_of, memory_with}
-use Rattle.work.specs.Permits.{is_list, OneEach}
+use Rattle.work.specs.Permits.{gave_list, OneEach}
 
 -- two lists of which the second is the first without one item
 pub record OneFewer {X : Type 0} (xs fewer : List X) : Type 0 where
@@ -92,4 +92,4 @@ module _ {K L : Type 0} (gives : L → RecordValue → Option K) (plan : Plan K)
       pub last : (es : List K) → Entries plan es → C ≡ after plan es → Point less plan (entries_after es calls) D
       pub rest : beyond calls new ≡ beyond calls old
       -- and one permit was spent for each list
-      pub permits : OneEach bs ds (count_by is_list answers)
+      pub permits : OneEach bs ds (count_by gave_list answers)

@@ -22,6 +22,7 @@ cut from to items = take (to - from) (drop from items)
 abbrev pub put : {X : Type 0} (from to : ℕ) (part items : List X) → List X
 put from to part items = take from items ++ (part ++ drop to items)
 
+-- the parts of all memory from one place to another
 abbrev pub cut_memory : {K : Type 0} (from to : Places) → Memory K → Memory K
 cut_memory from to m = memory (cut from.lines to.lines m.lines) (cut from.draws to.draws m.draws) (cut from.lists to.lists m.lists)
 

@@ -1,5 +1,5 @@
 //! One call.
-ghost use Rattle.std.specs.Prelude.{◌≡◌, length};
+ghost use Rattle.std.specs.Prelude.{◌≡◌};
 ghost use Rattle.work.specs.Memories.{memory, own_lines, own_draws, own_lists};
 ghost use Rattle.work.specs.Calls.{content_with, books_with, answer_of, lines_of, draws_of, lists_of};
 

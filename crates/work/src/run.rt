@@ -1,5 +1,5 @@
 //! A run: any list of calls of any summary.
-ghost use Rattle.std.specs.Prelude.{◌≡◌, ◌<◌, ◌≤◌, ◌-◌, ◌++◌, length, take, drop, slice_set, min};
+ghost use Rattle.std.specs.Prelude.{◌≡◌, ◌<◌, length, take, drop, slice_set, min};
 ghost use Rattle.work.specs.Memories.{memory_of, SameBuffers};
 ghost use Rattle.work.specs.Calls.{content_with, books_with, answer_of, lines_of, draws_of, lists_of};
 ghost use Rattle.work.specs.Steps.{Between, Ends, Within, Rewritten, cut, cut_memory, Stepped};

@@ -1,17 +1,14 @@
 -- The worked cases: those of records, and with them those of the model (contents, neighbours, a page and a list).
-use Rattle.std.specs.Prelude.{◌≡◌, ℕ, ◌+◌, ◌*◌, [], ◌∷◌, Some, None, Ok, Err, option_map}
+use Rattle.std.specs.Prelude.{◌≡◌, ℕ, [], ◌∷◌, Some, None, Ok, Err, option_map}
 use Rattle.keys.specs.Refusals.{number_of}
 use Rattle.keys.specs.declared.prefix.Prefix.{Prefix}
 use Rattle.records.specs.declared.fault.ReadFault.TheVariants.{Map, Field}
 use Rattle.records.specs.Faults.{refusal_of, place_of}
 use Rattle.records.specs.Values.{RecordValue}
+use Rattle.records.specs.Fields.{join}
 use Rattle.records.specs.Reading.{reading}
 use Rattle.lenses.specs.Gives.{prefix_given}
 use Rattle.model.specs.Worked.{WorkedCases}
-
--- an address by its four bytes
-abbrev pub address : (a b c d : ℕ) → ℕ
-address a b c d = a * 16_777_216 + b * 65_536 + c * 256 + d
 
 -- the record of an event kind and an address alone
 abbrev pub of_kind_and_source : ℕ → ℕ → RecordValue
@@ -23,11 +20,11 @@ prefix_parts k = (k.address, k.bits)
 
 pub record RecordCases : Type 0 where
   -- 0A 07 0A 01 02 03 is kind 7 and address 10.1.2.3
-  pub kind_and_address : reading (0x0A ∷ 0x07 ∷ 0x0A ∷ 0x01 ∷ 0x02 ∷ 0x03 ∷ []) ≡ Ok (of_kind_and_source 7 (address 10 1 2 3), 6)
+  pub kind_and_address : reading (0x0A ∷ 0x07 ∷ 0x0A ∷ 0x01 ∷ 0x02 ∷ 0x03 ∷ []) ≡ Ok (of_kind_and_source 7 (join 10 1 2 3), 6)
   -- and its key by the prefix lens of 16 bits is 10.1.0.0
-  pub prefix : option_map prefix_parts (prefix_given 16 (of_kind_and_source 7 (address 10 1 2 3))) ≡ Some (address 10 1 0 0, 16)
+  pub prefix : option_map prefix_parts (prefix_given 16 (of_kind_and_source 7 (join 10 1 2 3))) ≡ Some (join 10 1 0 0, 16)
   -- 20 is refused with 3 at place 0
-  pub map : reading (0x20 ∷ []) ≡ Err (Map 0)
+  pub map_fault : reading (0x20 ∷ []) ≡ Err (Map 0)
   pub map_number : number_of (refusal_of (Map 0)) ≡ 3
   pub map_place : place_of (Map 0) ≡ 0
   -- 01 00 01 51 80, a time of 86,400, with 5 at place 1

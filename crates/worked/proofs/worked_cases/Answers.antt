@@ -8,7 +8,7 @@ records : RecordCases
 records = record {
   kind_and_address = refl;
   prefix = refl;
-  map = refl;
+  map_fault = refl;
   map_number = refl;
   map_place = refl;
   time = refl;

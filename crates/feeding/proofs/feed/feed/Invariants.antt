@@ -12,6 +12,7 @@ invariant-loop-item g l = record {
   ends : (goal.iterator-loop-item g).is_finite l.item-iterator;
   few : l.fed.read + length l.item-iterator ≤ length l.log;
   parts : l.fed.read ≡ l.fed.absent + l.fed.passed_over + l.fed.taken;
+  grown : (g.S.Summary.content l.summary).n ≡ (g.S.Summary.content l.initial.summary).n + l.fed.taken;
   plan : g.S.Summary.plan l.summary ≡ g.S.Summary.plan l.initial.summary;
   stays : g.S.Summary.stays l.initial.summary l.summary;
   content : content_from g.S.Key.Kind.less (g.S.Summary.plan l.initial.summary) (g.L.Lens.gives l.lens) (g.S.Summary.content l.summary) l.item-iterator
