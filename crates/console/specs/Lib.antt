@@ -1,0 +1,9 @@
+pub mod Asked
+pub mod Counts
+pub mod Fed
+pub mod Lenses
+pub mod Numbers
+pub mod Pages
+pub mod Parts
+pub mod PartsLemmas
+pub mod Readings
