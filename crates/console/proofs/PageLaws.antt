@@ -1,16 +1,14 @@
--- A page keeps the law of pages, of the keys that the sketch took. Idea: a sketch admits every key, so these are a list of
+-- A page keeps the law of pages, of the keys that the sketch took, and a count that of its key. Idea: a sketch admits every key, so these are a list of
 -- entries, of which the law of pages speaks.
-use Rattle.std.proofs.Common.{◌≡◌, ℕ, ◌<◌, ◌≤◌, true, Bool, min, List, [], ◌∷◌, map, length, take, filter, Some, None, Option, refl, sym, ap, ◌∙◌, subst, arith, rules}
+use Rattle.std.proofs.Common.{◌≡◌, ℕ, ◌<◌, ◌≤◌, true, Bool, List, [], ◌∷◌, map, length, take, filter, Some, None, Option, refl, ap, subst, arith, rules}
 use Rattle.std.specs.Prelude.{nat_lt}
 use Rattle.std.specs.List.{AllByRecursion}
 use Rattle.std.proofs.lemmas.List.{length-take}
 use Rattle.keys.specs.Orders.{TotalOrder, by_parts}
 use Rattle.keys.specs.declared.pair.Pair.{Pair}
-use Rattle.records.specs.Values.{RecordValue}
 use Rattle.records.specs.Logs.{log_of}
-use Rattle.model.specs.Contents.{Content}
 use Rattle.model.specs.Pages.{page_lines}
-use Rattle.model.specs.Plans.{Plan, after, Entries, most_entries}
+use Rattle.model.specs.Plans.{after, most_entries}
 use Rattle.model.specs.Sketches.{sketch}
 use Rattle.model.proofs.SketchLaws.{sketch_lawful}
 use Rattle.pages.specs.Pages.{line_of, PageLaw}
@@ -20,7 +18,10 @@ use Rattle.console.specs.declared.lens.Lenses.{Lenses}
 use Rattle.console.specs.Parts.{less_part}
 use Rattle.console.specs.PartsLemmas.{part_total}
 use Rattle.console.specs.Fed.{content_after}
-use Rattle.console.specs.Asked.{less_key, LogPageLaw}
+use Rattle.feeding.specs.Feeding.{added}
+use Rattle.console.specs.Lenses.{parts_given}
+use Rattle.console.specs.Asked.{less_key, plan, LogPageLaw}
+use Rattle.console.specs.Counts.{CountLaw}
 use Rattle.console.specs.Numbers.{NumberPageLaw}
 
 number_total : TotalOrder nat_lt
@@ -50,6 +51,14 @@ pub log_page_law : (k : ℕ) (bs : List ℕ) (lenses : Option Lenses) (limit : �
 unfolding LogPageLaw content_after
 log_page_law k bs None limit = tt
 log_page_law k bs (Some a) limit = page_law less_key key_total k limit _ (few most_entries _)
+
+pub count_law : (k : ℕ) (bs : List ℕ) (asked : Option (Lenses × Pair Part Part)) → CountLaw k bs asked
+unfolding CountLaw content_after
+count_law k bs None = tt
+count_law k bs (Some p) =
+    let es = added (plan k) (plan k).fresh (parts_given p.0) (log_of bs).records in
+    let b = (sketch_lawful less_key key_total k).bounded es (record { admitted = all_admitted less_key key_total k 0 es; few = few most_entries _ }) in
+    (b.at_most p.1, b.at_least p.1)
 
 -- the filter of a sketch lets all pass
 all_pass : {X : Type 0} (xs : List X) → filter (λ (x : X). true) xs ≡ xs

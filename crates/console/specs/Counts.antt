@@ -1,8 +1,11 @@
 -- The count of a key in a log.
-use Rattle.std.specs.Prelude.{ℕ, ◌+◌, Bool, List, Option, option_map, option_and_then}
+use Rattle.std.specs.Prelude.{ℕ, ◌+◌, ◌≤◌, Bool, List, Option, Some, None, option_map, option_and_then}
 use Rattle.keys.specs.declared.held.Held.TheVariants.{Real}
 use Rattle.keys.specs.declared.pair.Pair.{Pair}
+use Rattle.records.specs.Logs.{log_of}
 use Rattle.model.specs.Contents.{Content, count_of}
+use Rattle.model.specs.Laws.{entries_of}
+use Rattle.feeding.specs.Feeding.{added}
 use Rattle.console.specs.declared.part.Part.{Part}
 use Rattle.console.specs.declared.lens.Lenses.{Lenses}
 use Rattle.console.specs.declared.reading.Reading.{Reading}
@@ -30,3 +33,12 @@ module _ (k : ℕ) (bs : List ℕ) where
 
   abbrev pub count_numbers : Option (Lenses × Pair Part Part) → CountNumbers → CountNumbers
   count_numbers key old = if_asked key (λ p. counted less_key (content k bs p.0) p.1) old
+
+-- Of the keys that the records give there are at least `count` and at most `upper` of this one. The records are those before
+-- what ended the reading; of more than 4,294,967,295 keys the first so many count.
+unfoldable pub CountLaw : (k : ℕ) → (bs : List ℕ) → Option (Lenses × Pair Part Part) → Type 0
+CountLaw k bs None = Unit {0}
+CountLaw k bs (Some p) =
+    let found = counted less_key (content k bs p.0) p.1 in
+    let entries = entries_of less_key (added (plan k) (plan k).fresh (parts_given p.0) (log_of bs).records) p.1 in
+    (found.count ≤ entries) × (entries ≤ found.upper)

@@ -1,6 +1,6 @@
 //! The count of a key in a log.
 ghost use Rattle.std.specs.Prelude.{◌≡◌};
-ghost use Rattle.console.specs.Counts.{counted, key_asked, count_answered, count_read, count_numbers};
+ghost use Rattle.console.specs.Counts.{counted, key_asked, count_answered, count_read, count_numbers, CountLaw};
 
 use crate::fed::feed_sketch;
 use crate::lens::Lenses;
@@ -54,6 +54,7 @@ fn asked_key(
 
 /// The count of a key in a log: by a sketch of k keys of what the lenses of these numbers give of its records, up to what
 /// ends the reading. The key is given by the bytes of its parts.
+#[tactic(auto, using(crate::proofs::PageLaws::count_law))]
 pub fn count_in_log(
     log: &[u8],
     first: u32,
@@ -67,6 +68,7 @@ pub fn count_in_log(
     ensures answer { result ≡ count_answered (key_asked first second k first_part.now second_part.now) }
     ensures reading { reading.new ≡ count_read k log.now (key_asked first second k first_part.now second_part.now) reading.old }
     ensures count { count.new ≡ count_numbers k log.now (key_asked first second k first_part.now second_part.now) count.old }
+    ensures law { CountLaw k log.now (key_asked first second k first_part.now second_part.now) }
 {
     let Some((lenses, key)) = asked_key(first, second, k, first_part, second_part) else {
         return 1;

@@ -5,7 +5,7 @@
 ghost use Rattle.std.specs.Prelude.{◌≡◌, length};
 ghost use Rattle.console.specs.Readings.{checked};
 ghost use Rattle.console.specs.Asked.{asked, log_read, page_answered, log_page_lines, page_numbers, LogPageLaw};
-ghost use Rattle.console.specs.Counts.{key_asked, count_answered, count_read, count_numbers};
+ghost use Rattle.console.specs.Counts.{key_asked, count_answered, count_read, count_numbers, CountLaw};
 ghost use Rattle.console.specs.Numbers.{number_page_answered, number_page_lines, number_page_numbers, NumberPageLaw};
 
 use console::log_count::{CountNumbers, count_in_log};
@@ -59,6 +59,7 @@ pub extern "C" fn konjacattic_count(
     ensures answer { result ≡ count_answered (key_asked first second k first_part.now second_part.now) }
     ensures reading { reading.new ≡ count_read k log.now (key_asked first second k first_part.now second_part.now) reading.old }
     ensures count { count.new ≡ count_numbers k log.now (key_asked first second k first_part.now second_part.now) count.old }
+    ensures law { CountLaw k log.now (key_asked first second k first_part.now second_part.now) }
 {
     count_in_log(
         log,
