@@ -13,7 +13,8 @@
  *   7  a key more than 4,294,967,295
  *
  * No pointer may be null, also where the length beside it is 0. What a call writes must not overlap what it reads, nor
- * one output another. A call takes up to 400,000 bytes of stack.
+ * one output another. A call needs a stack: 400,000 bytes sufficed for the deepest calls that were tried, which is not
+ * proved.
  */
 #ifndef KONJACATTIC_H
 #define KONJACATTIC_H
