@@ -1,25 +1,19 @@
-//! Tests on worked examples and edge values: of keys, records, the text of a log, trees, summaries, lenses, feeding,
-//! pages and their text. `record_table` has the many cases of the reader and the writer, `tree_table` those of a tree,
-//! `summary_table` those of a summary. Rests on all crates that it tests.
+//! Tests of what no table shows: records that a caller made up, whole texts, cells that were lent, permits used again after
+//! a refusal, runs of calls, and the calls of a console. Rests on all crates that it tests.
+//!
+//! Programs with stored output have the many cases: `key_table`, `record_table`, `tree_table`, `summary_table` and
+//! `release_table`; `walkthrough` makes every call once.
 #![tactic(auto)]
 
 #[cfg(test)]
-mod fed;
+mod cells;
 #[cfg(test)]
-mod kinds;
+mod console_calls;
 #[cfg(test)]
-mod orders;
+mod permits;
 #[cfg(test)]
-mod page_texts;
+mod runs;
 #[cfg(test)]
-mod sketches;
-#[cfg(test)]
-mod tallies;
-#[cfg(test)]
-mod torn_logs;
-#[cfg(test)]
-mod trees;
-#[cfg(test)]
-mod worked_records;
+mod texts;
 #[cfg(test)]
 mod written_records;

@@ -11,5 +11,3 @@ pub mod number_page;
 pub mod page;
 pub mod part;
 pub mod reading;
-#[cfg(test)]
-mod tests;

@@ -10,7 +10,7 @@ use Rattle.std.proofs.lemmas.List.Elements.{filter-append, filter_map-append}
 use Rattle.std.proofs.lemmas.Bool.{ltb-true, ltb-false}
 use Rattle.std.proofs.lemmas.Option.{slice_get_past}
 use Rattle.keys.specs.declared.refusal.Refusal.{Refusal}
-use Rattle.keys.specs.declared.refusal.Refusal.TheVariants.{NotAdmitted, Full}
+use Rattle.keys.specs.declared.refusal.Refusal.TheVariants.{Full}
 use Rattle.records.specs.Values.{RecordValue}
 use Rattle.records.specs.Writing.{encode}
 use Rattle.records.specs.Logs.{LogFault, Log, encode_all, EndsAs, log_of}
@@ -19,25 +19,19 @@ use Rattle.records.proofs.Items.{slice_laws}
 use Rattle.model.specs.Contents.{Content}
 use Rattle.model.specs.Plans.{Plan, after_from, most_entries}
 use Rattle.model.proofs.Runs.{after-append}
-use Rattle.summaries.specs.declared.answers.Taken.{Taken}
-use Rattle.summaries.specs.Calls.{taken_content, taken_answer, CountsEntries}
+use Rattle.summaries.specs.Calls.{CountsEntries}
 use Rattle.feeding.specs.declared.fault.Cause.TheVariants.{Summary}
 use Rattle.feeding.specs.declared.fault.FeedFault.{FeedFault}
 use Rattle.feeding.specs.declared.feed.Fed.{Fed}
 use Rattle.feeding.specs.Faults.{reader_fault}
+use Rattle.feeding.specs.Steps.{step_content, step_fed, step_answer}
 use Rattle.feeding.specs.Feeding.{places_from, keys_of, room, is_entry, fed_of, added, full_at, answer_by, fed_answer}
 use Rattle.feeding.proofs.Beginnings.{encoded_more, places_append, places_length, get_past, entries_count, fed_absent, fed_passed_over, fed_taken, keys_absent, entries_passed_over, entries_taken}
 
--- by a key or none
-abbrev by_key : {K B : Type 0} → Option K → B → (K → B) → B
-by_key None none some = none
-by_key (Some x) none some = some x
-
--- by what taking a key answers
-abbrev by_answer : {B : Type 0} → Result Taken Refusal → B → B → (Refusal → B) → B
-by_answer (Ok t) taken passed_over refused = taken
-by_answer (Err NotAdmitted) taken passed_over refused = passed_over
-by_answer (Err r) taken passed_over refused = refused r
+-- by whether a record ends feeding
+abbrev by_step : {B : Type 0} → Result (Unit {0}) Refusal → B → (Refusal → B) → B
+by_step (Ok u) goes_on ended = goes_on
+by_step (Err r) goes_on ended = ended r
 
 -- what is left to be done
 module _ {K : Type 0} (less : K → K → Bool) (plan : Plan K) (gives : RecordValue → Option K) where
@@ -46,19 +40,17 @@ module _ {K : Type 0} (less : K → K → Bool) (plan : Plan K) (gives : RecordV
   content_from now [] = now
   content_from now (Err f ∷ items) = now
   content_from now (Ok p ∷ items) =
-      by_key (gives p.1) (content_from now items) (λ x. by_answer (taken_answer less plan now x) (content_from (taken_content plan now x) items)
-      (content_from (taken_content plan now x) items) (λ r. taken_content plan now x))
+      by_step (step_answer less plan now (gives p.1)) (content_from (step_content plan now (gives p.1)) items)
+      (λ r. step_content plan now (gives p.1))
 
   -- the answer after these items, where this was found before them
   abbrev pub answer_from : Content K → Fed → List Item → Result Fed FeedFault
   answer_from now fed [] = Ok fed
   answer_from now fed (Err f ∷ items) = Err (reader_fault f.fault f.index f.offset)
   answer_from now fed (Ok p ∷ items) =
-      by_key (gives p.1) (answer_from now (record { read = fed.read + 1; absent = fed.absent + 1; passed_over = fed.passed_over; taken = fed.taken }) items)
-      (λ x. by_answer (taken_answer less plan now x)
-      (answer_from (taken_content plan now x) (record { read = fed.read + 1; absent = fed.absent; passed_over = fed.passed_over; taken = fed.taken + 1 }) items)
-      (answer_from (taken_content plan now x) (record { read = fed.read + 1; absent = fed.absent; passed_over = fed.passed_over + 1; taken = fed.taken }) items)
-      (λ r. Err (record { cause = Summary r; index = fed.read; offset = p.0 })))
+      by_step (step_answer less plan now (gives p.1))
+      (answer_from (step_content plan now (gives p.1)) (step_fed less plan now (gives p.1) fed) items)
+      (λ r. Err (record { cause = Summary r; index = fed.read; offset = p.0 }))
 
 -- the admitted keys of some records
 abbrev entries : {K : Type 0} → Plan K → (RecordValue → Option K) → List RecordValue → List K

@@ -1,5 +1,5 @@
 //! What a program does with permits: each is handed back, from wherever it was kept, or spent by a release. The must-fail
-//! edits let them go. Rests on keys, model, summaries and release.
+//! edits let them go, each in another way. Rests on keys, model, summaries and release.
 #![tactic(auto)]
 
 ghost use Rattle.std.specs.Prelude.{◌≡◌, cond, length, replicate, pos, IfOk, Ok, OnErr};

@@ -8,5 +8,3 @@ pub mod entry;
 mod list;
 pub mod permit;
 pub mod release;
-#[cfg(test)]
-mod tests;
