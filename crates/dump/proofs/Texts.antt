@@ -10,8 +10,7 @@ use Rattle.std.specs.Net.Text.{dotted_text, ipv4_text}
 use Rattle.keys.specs.Words.{first_wrong, is_word}
 use Rattle.records.specs.Values.{bytes_of}
 use Rattle.records.proofs.Characters.{none_wrong_utf8}
-use Rattle.dump.specs.declared.lines.Quoted.{Quoted}
-use Rattle.dump.specs.Lines.{dotted, quoted_text, field_output, number_part, source_part, flight_part}
+use Rattle.dump.specs.Lines.{dotted, field_output, number_part, source_part}
 
 pub ipv4_dotted : (a : Ipv4Addr) (v : ℕ) → v < 2 ^ 32 → IsIpv4OfBits a v → ipv4_text (ipv4_octets a) ≡ dotted v
 unfolding IsIpv4OfBits
@@ -35,8 +34,8 @@ source_printed (Some v) (Some a) e = ap (λ text. Some (codes " source " ++ text
 source_printed (Some v) None e = absurd e
 source_printed None a e = ap (field_output (λ x. Some (ipv4_text (ipv4_octets x))) (codes "source")) e
 
-pub flight_printed : (w : Option (Bor (List ℕ))) (q : Option Quoted) → MatchOption w (q ≡ None) (λ x. IsSomeAnd q (λ y. y.0.now ≡ x.now)) →
-    field_output (λ y. Some (quoted_text y.0.now)) (codes "flight") q ≡ Some (flight_part (bytes_of w))
-flight_printed (Some w) (Some q) e = ap (λ text. Some (codes " flight " ++ quoted_text text)) e
-flight_printed (Some w) None e = absurd e
-flight_printed None q e = ap (field_output (λ y. Some (quoted_text y.0.now)) (codes "flight")) e
+-- a word's characters are its bytes
+pub same_bytes : (w q : Option (Bor (List ℕ))) → MatchOption w (q ≡ None) (λ x. IsSomeAnd q (λ y. y.now ≡ x.now)) → bytes_of q ≡ bytes_of w
+same_bytes (Some w) (Some q) e = ap Some e
+same_bytes (Some w) None e = absurd e
+same_bytes None q e = ap bytes_of e

@@ -3,7 +3,7 @@ use Rattle.std.proofs.Common.{◌≡◌, ℕ, ◌+◌, ◌≤◌, true, ltb, Lis
 use Rattle.std.proofs.lemmas.Bool.{and_parts}
 use Rattle.std.proofs.lemmas.List.Elements.{All-head, All-rest, All-same}
 use Rattle.records.specs.Values.{RecordValue}
-use Rattle.records.specs.Writing.{map_of, in_range, word_fits, encode}
+use Rattle.records.specs.Writing.{map_of, in_range, is_record, word_fits, encode}
 use Rattle.records.specs.Logs.{LogFault, log_of}
 use Rattle.records.specs.Items.{Item, IsWritable, items_from, items_of}
 use Rattle.dump.specs.Lines.{line_of, lines_from, last_line, text_of}
@@ -40,6 +40,10 @@ begun was log items e few writable =
       whole = ap (λ text. was ++ text) (text_by_items 0 0 all.records all.fault ∙ ap (items_text 0) (sym e));
     }
 
+-- what can be written has a flight word or none
+pub flight_fits : (r : RecordValue) → is_record r ≡ true → word_fits r.flight ≡ true
+flight_fits r h = (and_parts _ (word_fits r.flight) (and_parts (ltb 0 (map_of r)) (in_range r) h).1).1
+
 -- at a record
 module _ (was so log : List ℕ) (count : ℕ) (items others : List Item) (offset : ℕ) (r : RecordValue) (s : SoFar was so log count items) (e : items ≡ Ok (offset, r) ∷ others) where
   pub more : (after : List ℕ) → after ≡ so ++ line_of count r → SoFar was after log (count + 1) others
@@ -50,8 +54,5 @@ module _ (was so log : List ℕ) (count : ℕ) (items others : List Item) (offse
         ∙ ap (λ text. text ++ items_text (count + 1) others) (sym written);
   }
 
-  -- what can be written has a flight word or none
-  pub flight_fits : word_fits r.flight ≡ true
-  flight_fits =
-      let h = All-head IsWritable (Ok (offset, r)) others (All-same IsWritable (Ok (offset, r) ∷ others) items (sym e) s.writable) in
-      (and_parts _ (word_fits r.flight) (and_parts (ltb 0 (map_of r)) (in_range r) h).1).1
+  pub next_fits : word_fits r.flight ≡ true
+  next_fits = flight_fits r (All-head IsWritable (Ok (offset, r)) others (All-same IsWritable (Ok (offset, r) ∷ others) items (sym e) s.writable))

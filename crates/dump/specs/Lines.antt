@@ -24,10 +24,6 @@ abbrev pub flight_part : Option (List ℕ) → List ℕ
 flight_part (Some w) = codes " flight \"" ++ (w ++ codes "\"")
 flight_part None = []
 
--- a word between two quotes
-abbrev pub quoted_text : List ℕ → List ℕ
-quoted_text w = codes "\"" ++ (w ++ codes "\"")
-
 -- a field with its name, whose value prints what `output` says; nothing where it is missing
 abbrev pub field_output : {T : Type 0} → (T → Option (List ℕ)) → (name : List ℕ) → Option T → Option (List ℕ)
 field_output output name (Some v) = option_map (λ text. codes " " ++ (name ++ (codes " " ++ text))) (output v)

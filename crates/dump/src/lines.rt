@@ -7,7 +7,7 @@ ghost use Rattle.records.specs.Values.{bytes_of, value_of};
 ghost use Rattle.records.specs.Writing.{word_fits};
 ghost use Rattle.records.specs.Items.{fault_of};
 ghost use Rattle.records.specs.Logs.{log_of};
-ghost use Rattle.dump.specs.Lines.{dotted, quoted_text, field_output, line_of, last_line, text_of};
+ghost use Rattle.dump.specs.Lines.{dotted, flight_part, field_output, line_of, last_line, text_of};
 
 use keys::refusal::Refusal;
 use records::log::{LogFault, Records};
@@ -41,27 +41,28 @@ fn address(bits: u32) -> Ipv4Addr
     Ipv4Addr::from(bits)
 }
 
-/// A flight word, which is printed in quotes.
-#[derive(Clone, Copy)]
-struct Quoted<'a>(&'a str);
-
-impl<'a> Quoted<'a> {
-    /// The word in quotes; all bytes of a flight word are characters.
-    #[tactic(auto, using(crate::proofs::Texts::word_utf8))]
-    fn new(word: &'a [u8]) -> Quoted<'a>
-        requires { is_word word.now ≡ true }
-        ensures { result.0.now ≡ word.now }
-    {
-        Quoted(str::from_utf8(word).unwrap())
-    }
+/// The characters of a flight word: each of its bytes is one.
+#[tactic(auto, using(crate::proofs::Texts::word_utf8))]
+fn characters(word: &[u8]) -> &str
+    requires { is_word word.now ≡ true }
+    ensures { result.now ≡ word.now }
+{
+    str::from_utf8(word).unwrap()
 }
 
-impl fmt::Display for Quoted<'_> {
-    ghost output = { λ quoted. Some (quoted_text quoted.0.now) };
+/// A flight word in quotes, with its name; nothing is printed of a word that is missing.
+#[derive(Clone, Copy)]
+struct Flight<'a>(Option<&'a str>);
+
+impl fmt::Display for Flight<'_> {
+    ghost output = { λ flight. Some (flight_part (bytes_of flight.0)) };
 
     fn fmt<W: fmt::Write>(&self, f: &mut fmt::Formatter<W>) -> fmt::Result {
-        let word = self.0;
-        write!(f, "\"{word}\"")
+        let Some(word) = self.0 else {
+            return Ok(());
+        };
+        // no `Field`, whose smaller pieces would let some logs' texts take nearly twice the memory
+        write!(f, " flight \"{word}\"")
     }
 }
 
@@ -83,7 +84,7 @@ impl fmt::Display for RecordLine<'_> {
         let kind = Field("kind", given.kind);
         let console = Field("console", given.console);
         let source = Field("source", given.source.map(address));
-        let flight = Field("flight", given.flight.map(Quoted::new));
+        let flight = Flight(given.flight.map(characters));
         writeln!(f, "{index}{time}{kind}{console}{source}{flight}")
     }
 }

@@ -58,7 +58,7 @@ pub word_compares : (x y : FlightWord) (u v : List ℕ) (o : Ordering) → u ≡
 word_compares x y u v o e f h =
     words_tell x y o (word_ranked (bytes_of x) (bytes_of y) o (h ∙ ap (λ (a : List ℕ). slice_cmp nat_cmp a v) e ∙ ap (λ (b : List ℕ). slice_cmp nat_cmp (bytes_of x) b) f))
 
--- (the second serves the edit must-fail/word_turned: by it a comparison in the impl proves where it is not turned)
+-- (the second serves the planted bug word_turned: by it a comparison in the impl proves where it is not turned)
 pub flight_ranked : (x y : FlightWord) (o : Ordering) → o ≡ ordering_then (slice_cmp nat_cmp x.bytes y.bytes) (nat_cmp x.len y.len)
     → MatchOrdering o (less_flight x y ≡ true) (x ≡ y) (less_flight y x ≡ true)
 flight_ranked x y o h = word_compares x y (bytes_of x) (bytes_of y) o refl refl (h ∙ cmp_flights x y)

@@ -8,3 +8,4 @@ pub mod Rounds
 pub mod Logging
 pub mod Items
 pub mod Characters
+pub mod Paste

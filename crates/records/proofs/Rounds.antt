@@ -28,7 +28,7 @@ word_short (Some w) h =
     omega (arith, leb-true (length w) 8 b.1)
 word_short None h = omega arith
 
-encode_length : (r : RecordValue) →
+pub encode_length : (r : RecordValue) →
     length (encode r) ≡ 1 + length (encode_four r.time) + length (encode_byte r.kind) + length (encode_byte r.console) + length (encode_four r.source) + length (encode_word r.flight)
 encode_length r = simp length-append (omega arith)
 

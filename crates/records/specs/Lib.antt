@@ -6,3 +6,4 @@ pub mod Writing
 pub mod Laws
 pub mod Logs
 pub mod Items
+pub mod Pasting

@@ -1,6 +1,5 @@
 //! The record of a console's log: its reader, its writer, and the records of a log, one after another. specs/ says
-//! what they answer. Rests on keys for the refusals and for which bytes make a flight word, and on the kit's arrayvec
-//! for bytes without a heap.
+//! what they answer. Rests on keys for the refusals and for which bytes make a flight word.
 #![tactic(auto)]
 
 pub mod fault;

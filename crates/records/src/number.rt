@@ -1,19 +1,10 @@
 //! A number that a field holds in a fixed count of bytes, the highest first: how it is read and written.
-ghost use Rattle.std.specs.Prelude.{◌≡◌, ℕ, ◌+◌, ◌≤◌, Bool, List, [], ◌++◌, length, nat_le, slice_index, Some, None, Option};
+ghost use Rattle.std.specs.Prelude.{◌≡◌, ℕ, ◌+◌, ◌≤◌, Bool, List, [], length, nat_le, slice_index, Some, None, Option};
 ghost use Rattle.std.specs.Ordering.{is_le};
 ghost use Rattle.std.proofs.Common.{rules};
-ghost use Rattle.arrayvec.specs.ArrayVec.{array_vec_len};
 ghost use Rattle.records.specs.Fields.{join_at};
 ghost use Rattle.records.specs.Writing.{encode_byte, encode_four};
-ghost use Rattle.records.specs.declared.number.TheConstants.{LONGEST};
-
-use arrayvec::ArrayVec;
-
-/// The most bytes of a record.
-pub(crate) const LONGEST: usize = 20;
-
-/// A record, or its beginning, as bytes.
-pub(crate) type Encoded = ArrayVec<u8, LONGEST>;
+ghost use Rattle.records.specs.Pasting.{pasted};
 
 /// The ghost members are its count of bytes, its value at a place, the order of values, and a field as bytes; the laws,
 /// that this is the order of `Ord`, that a missing field has no bytes, and that a number has `WIDTH`.
@@ -33,10 +24,10 @@ pub(crate) trait Number: Copy + Ord {
         requires { at + WIDTH ≤ length input.now }
         ensures { result ≡ value_at input.now at };
 
-    /// Adds the number to the bytes.
-    fn put(self, bytes: &mut Encoded)
-        requires { array_vec_len bytes.old + WIDTH ≤ LONGEST }
-        ensures { bytes.new.items ≡ bytes.old.items ++ encode (Some self) };
+    /// Writes the number at this place.
+    fn put(self, out: &mut [u8], at: usize)
+        requires { at + WIDTH ≤ length out.old }
+        ensures { out.new ≡ pasted out.old at (encode (Some self)) };
 
     ghost compares: { (a b : Self) → at_most a b ≡ is_le (Self.Ord.cmp a b) };
 
@@ -66,8 +57,8 @@ impl Number for u8 {
         input[at]
     }
 
-    fn put(self, bytes: &mut Encoded) {
-        bytes.push(self);
+    fn put(self, out: &mut [u8], at: usize) {
+        out[at] = self;
     }
 }
 
@@ -92,7 +83,7 @@ impl Number for u32 {
         u32::from_be_bytes([input[at], input[at + 1], input[at + 2], input[at + 3]])
     }
 
-    fn put(self, bytes: &mut Encoded) {
-        bytes.try_extend_from_slice(&self.to_be_bytes()).unwrap();
+    fn put(self, out: &mut [u8], at: usize) {
+        out[at..at + 4].copy_from_slice(&self.to_be_bytes());
     }
 }

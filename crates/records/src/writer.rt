@@ -1,14 +1,13 @@
 //! The writer: a record at the start of the output, or a refusal that leaves the output as it was.
-ghost use Rattle.std.specs.Prelude.{◌≡◌, ◌+◌, ◌≤◌, true, false, ◌++◌, length};
+ghost use Rattle.std.specs.Prelude.{◌≡◌, ◌+◌, ◌≤◌, true, false, ◌++◌, length, drop};
 ghost use Rattle.std.specs.Range.{range_inclusive_start, range_inclusive_end, range_inclusive_exhausted};
-ghost use Rattle.arrayvec.specs.ArrayVec.{array_vec_len};
 ghost use Rattle.records.specs.Values.{bytes_of, value_of};
 ghost use Rattle.records.specs.Writing.{map_of, between, word_fits, in_range, encode_word, encode, writing, output_after};
+ghost use Rattle.records.specs.Pasting.{pasted};
 ghost use Rattle.records.specs.Laws.{WriteLaws};
-ghost use Rattle.records.specs.declared.number.TheConstants.{LONGEST};
 
 use crate::map::Bit;
-use crate::number::{Encoded, Number};
+use crate::number::Number;
 use crate::record::Record;
 use keys::refusal::Refusal;
 use keys::word::bytes::is_word;
@@ -45,42 +44,79 @@ fn map_of(given: &Record<'_>) -> u8
     time + kind + console + source + flight
 }
 
-/// Adds a number, if it is present.
-fn put_number<N: Number>(field: Option<N>, bytes: &mut Encoded)
-    requires { array_vec_len bytes.old + N.WIDTH ≤ LONGEST }
-    ensures written { bytes.new.items ≡ bytes.old.items ++ N.encode field }
-    ensures short { array_vec_len bytes.new ≤ array_vec_len bytes.old + N.WIDTH }
+/// How many bytes a number has, if it is present.
+fn number_length<N: Number>(field: Option<N>) -> usize
+    ensures value { result ≡ length (N.encode field) }
+    ensures small { result ≤ N.WIDTH }
 {
-    if let Some(number) = field {
-        number.put(bytes);
+    match field {
+        Some(_) => N::WIDTH,
+        None => 0,
     }
 }
 
-/// Adds a flight word, if it is present: its length, then its bytes.
-fn put_word(field: Option<&[u8]>, bytes: &mut Encoded)
+/// How many bytes a flight word has, if it is present: its length, then its bytes.
+fn word_length(field: Option<&[u8]>) -> usize
+    requires { word_fits (bytes_of field) ≡ true }
+    ensures value { result ≡ length (encode_word (bytes_of field.entry)) }
+    ensures small { result ≤ 9 }
+{
+    match field {
+        Some(word) => 1 + word.len(),
+        None => 0,
+    }
+}
+
+/// The length of a record whose flight word, if there is one, is right.
+fn length_of(given: &Record<'_>) -> usize
+    requires { word_fits (bytes_of given.now.flight) ≡ true }
+    ensures { result ≡ length (encode (value_of given.now)) }
+{
+    1 + number_length(given.time)
+        + number_length(given.kind)
+        + number_length(given.console)
+        + number_length(given.source)
+        + word_length(given.flight)
+}
+
+/// Writes a number at this place, if it is present, and answers the place after it.
+#[tactic(auto, using(crate::proofs::Paste::unmoved))]
+fn put_number<N: Number>(field: Option<N>, out: &mut [u8], at: usize) -> usize
+    requires { at + length (N.encode field) ≤ length out.old }
+    ensures place { result ≡ at + length (N.encode field) }
+    ensures written { out.new ≡ pasted out.old at (N.encode field) }
+{
+    let Some(number) = field else {
+        return at;
+    };
+    number.put(out, at);
+    at + N::WIDTH
+}
+
+/// Writes a flight word at this place, if it is present: its length, then its bytes.
+fn put_word(field: Option<&[u8]>, out: &mut [u8], at: usize)
     requires fits { word_fits (bytes_of field) ≡ true }
-    requires room { array_vec_len bytes.old + 9 ≤ LONGEST }
-    ensures { bytes.new.items ≡ bytes.old.items ++ encode_word (bytes_of field.entry) }
+    requires room { at + length (encode_word (bytes_of field)) ≤ length out.old }
+    ensures { out.new ≡ pasted out.old at (encode_word (bytes_of field.entry)) }
 {
     if let Some(word) = field {
-        bytes.push(word.len() as u8);
-        bytes.try_extend_from_slice(word).unwrap();
+        out[at] = word.len() as u8;
+        out[at + 1..at + 1 + word.len()].copy_from_slice(word);
     }
 }
 
-/// The bytes of a record, whose flight word, if there is one, is right.
-fn encoded(given: &Record<'_>) -> Encoded
-    requires { word_fits (bytes_of given.now.flight) ≡ true }
-    ensures { result.items ≡ encode (value_of given.now) }
+/// Writes the map byte and the fields at the start of the output, which has room for them.
+fn put_record(given: &Record<'_>, out: &mut [u8])
+    requires fits { word_fits (bytes_of given.now.flight) ≡ true }
+    requires room { length (encode (value_of given.now)) ≤ length out.old }
+    ensures { out.new ≡ encode (value_of given.now) ++ drop (length (encode (value_of given.now))) out.old }
 {
-    let mut bytes = Encoded::new();
-    bytes.push(map_of(given));
-    put_number(given.time, &mut bytes);
-    put_number(given.kind, &mut bytes);
-    put_number(given.console, &mut bytes);
-    put_number(given.source, &mut bytes);
-    put_word(given.flight, &mut bytes);
-    bytes
+    let at = put_number(Some(map_of(given)), out, 0);
+    let at = put_number(given.time, out, at);
+    let at = put_number(given.kind, out, at);
+    let at = put_number(given.console, out, at);
+    let at = put_number(given.source, out, at);
+    put_word(given.flight, out, at);
 }
 
 /// The writer's answer and the output; `write` adds the laws.
@@ -94,12 +130,12 @@ fn write_checked(given: &Record<'_>, out: &mut [u8]) -> Result<usize, Refusal>
     if !in_range(given) {
         return Err(Refusal::Field);
     }
-    let bytes = encoded(given);
-    if out.len() < bytes.len() {
+    let length = length_of(given);
+    if out.len() < length {
         return Err(Refusal::NoRoom);
     }
-    out[..bytes.len()].copy_from_slice(bytes.as_slice());
-    Ok(bytes.len())
+    put_record(given, out);
+    Ok(length)
 }
 
 /// Writes the record at the start of the output and answers its length; refuses with 3 if no field is present, then
