@@ -1,10 +1,11 @@
 -- Bytes written one after another. Idea: what is pasted right after a paste is one paste of both.
-use Rattle.std.proofs.Common.{◌≡◌, ℕ, ◌+◌, ◌<◌, ◌≤◌, List, [], ◌∷◌, ◌++◌, length, drop, set, refl, sym, ap, ◌∙◌, add-zero, add-one, arith}
+use Rattle.std.proofs.Common.{◌≡◌, ℕ, ◌+◌, ◌-◌, ◌/◌, ◌%◌, ◌^◌, ◌<◌, ◌≤◌, Some, slice_set, List, [], ◌∷◌, ◌++◌, length, drop, set, refl, sym, ap, ◌∙◌, add-zero, add-one, arith}
 use Rattle.std.proofs.lemmas.List.{take-append-drop, set_split, length-append}
 use Rattle.std.proofs.lemmas.List.Edits.{paste_all, paste-paste}
 use Rattle.std.proofs.lemmas.Slice.{put_mid-paste}
 use Rattle.std.proofs.Math.Seq.{paste}
 use borrow.Rule.Slice.PartMut.{put_mid}
+use Rattle.records.specs.Writing.{encode_byte, encode_four, encode_word}
 use Rattle.records.specs.Pasting.{pasted}
 
 pub pasted-nil : (out : List ℕ) (at : ℕ) → out ≡ pasted out at []
@@ -40,6 +41,24 @@ onward out mid last at then xs ys p q e l = q ∙ ap (λ o. pasted o then ys) p 
 -- what was copied over a part of the output is pasted there
 pub part-pasted : (out part xs : List ℕ) (at n : ℕ) → part ≡ xs → n ≡ length xs → put_mid at n out part ≡ pasted out at xs
 part-pasted out part xs at n e l = put_mid-paste at n out part xs n e refl l ∙ ap (paste out at xs) l ∙ sym (as_paste out at xs)
+
+-- a number of one byte, and one of four, as they are stored; then a flight word, behind its length
+pub byte_pasted : (out : List ℕ) (at v : ℕ) → at + 1 ≤ length out → slice_set out at v ≡ pasted out at (encode_byte (Some v))
+byte_pasted out at v l = set-pasted out at v (omega (arith, l))
+
+pub four_pasted : (out part : List ℕ) (at v : ℕ) → v < 2 ^ 32 → part ≡ v / 16_777_216 % 256 ∷ v / 65_536 % 256 ∷ v / 256 % 256 ∷ v % 256 ∷ [] →
+    put_mid at (at + 4 - at) out part ≡ pasted out at (encode_four (Some v))
+four_pasted out part at v l e =
+    let high : v / 16_777_216 % 256 ≡ v / 16_777_216 = omega arith in
+    let others = v / 65_536 % 256 ∷ v / 256 % 256 ∷ v % 256 ∷ [] in
+    part-pasted out part _ at (at + 4 - at) (e ∙ ap (λ b. b ∷ others) high) (omega arith)
+
+pub word_pasted : (out part w : List ℕ) (at : ℕ) → at + length (encode_word (Some w)) ≤ length out → part ≡ w →
+    put_mid (at + 1) (at + 1 + length w - (at + 1)) (slice_set out at (length w)) part ≡ pasted out at (encode_word (Some w))
+word_pasted out part w at l e =
+    let first = set-pasted out at (length w) (omega (arith, l)) in
+    let second = part-pasted (slice_set out at (length w)) part w (at + 1) (at + 1 + length w - (at + 1)) e (omega arith) in
+    onward out _ _ at (at + 1) (length w ∷ []) w first second refl (omega (arith, l))
 
 -- no bytes written
 pub unmoved : (out xs : List ℕ) (at : ℕ) → xs ≡ [] → out ≡ pasted out at xs

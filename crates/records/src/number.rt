@@ -57,6 +57,7 @@ impl Number for u8 {
         input[at]
     }
 
+    #[tactic(auto, using(crate::proofs::Paste::byte_pasted))]
     fn put(self, out: &mut [u8], at: usize) {
         out[at] = self;
     }
@@ -83,6 +84,7 @@ impl Number for u32 {
         u32::from_be_bytes([input[at], input[at + 1], input[at + 2], input[at + 3]])
     }
 
+    #[tactic(auto, using(crate::proofs::Paste::four_pasted))]
     fn put(self, out: &mut [u8], at: usize) {
         out[at..at + 4].copy_from_slice(&self.to_be_bytes());
     }

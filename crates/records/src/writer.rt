@@ -94,6 +94,7 @@ fn put_number<N: Number>(field: Option<N>, out: &mut [u8], at: usize) -> usize
 }
 
 /// Writes a flight word at this place, if it is present: its length, then its bytes.
+#[tactic(auto, using(crate::proofs::Paste::word_pasted, crate::proofs::Paste::unmoved))]
 fn put_word(field: Option<&[u8]>, out: &mut [u8], at: usize)
     requires fits { word_fits (bytes_of field) ≡ true }
     requires room { at + length (encode_word (bytes_of field)) ≤ length out.old }
